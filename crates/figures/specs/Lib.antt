@@ -1,0 +1,4 @@
+pub mod Ceiling
+pub mod Limits
+pub mod Printed
+pub mod Refusals
