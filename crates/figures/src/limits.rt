@@ -40,17 +40,15 @@ pub impl fmt::Display for Figure as FigureDisplay {
     ghost shown = { λ figure. Some (word figure) };
 
     fn fmt<W: fmt::Write>(&self, f: &mut fmt::Formatter<W>) -> fmt::Result {
-        f.write_str(
-            match self {
-                Figure::Workers => "workers",
-                Figure::Holds => "holds",
-                Figure::Blocks => "blocks",
-                Figure::Live => "live blocks",
-                Figure::TakingPeriod => "taking period",
-                Figure::TryingPeriod => "trying period",
-                Figure::StartingEra => "starting era",
-            },
-        )
+        match self {
+            Figure::Workers => f.write_str("workers W"),
+            Figure::Holds => f.write_str("holds H"),
+            Figure::Blocks => f.write_str("blocks N"),
+            Figure::Live => f.write_str("live blocks M"),
+            Figure::TakingPeriod => f.write_str("taking period F"),
+            Figure::TryingPeriod => f.write_str("trying period G"),
+            Figure::StartingEra => f.write_str("starting era"),
+        }
     }
 }
 
