@@ -23,6 +23,9 @@ pub use stack::Stack;
 pub use stack::StackPool;
 use std::fmt;
 
+// The most numbers that a pool can have.
+pub const LARGEST: usize = 2048;
+
 // Why a pool refuses: its size is wrong, it has no number in, or a number given to it is not out.
 #[derive(Clone, Copy, PartialEq, Eq, Debug)]
 pub enum PoolFault {

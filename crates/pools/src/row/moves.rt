@@ -6,6 +6,7 @@ ghost use Rattle.pools.specs.Meaning.{taken, left, given, gained, Unmoved};
 ghost use Rattle.pools.specs.Orders.{first};
 ghost use Rattle.pools.specs.Rows.{members, order};
 ghost use Rattle.std.specs.Vec.{made};
+use crate::LARGEST;
 use crate::Pool;
 use crate::PoolFault;
 use crate::fresh::fresh;
@@ -55,7 +56,7 @@ pub impl Pool for Row as RowPool {
         }
         let number = self.spots[self.head as usize];
         self.ins[number as usize] = false;
-        self.head = (self.head + 1) % 2048;
+        self.head = (self.head + 1) % LARGEST as u16;
         self.held -= 1;
         Ok(number)
     }
@@ -69,8 +70,8 @@ pub impl Pool for Row as RowPool {
         if number >= self.size || self.ins[number as usize] {
             return Err(PoolFault::NotOut);
         }
-        let end = (self.head + self.held) % 2048;
-        self.spots[end as usize] = number;
+        let end = (self.head as usize + self.held as usize) % LARGEST;
+        self.spots[end] = number;
         self.held += 1;
         self.ins[number as usize] = true;
         Ok(())

@@ -1,0 +1,1 @@
+// Both pools by example.
