@@ -7,14 +7,15 @@ use Prim.Native.Nat.{ℕ, zero, suc, _+_, _<_, _≤_}
 use native.Mathlib.Omega.{arith}
 use lib.Dec.{eqb, ltb}
 use lib.ListN.{length, length-set, getD, set, take}
-use Rattle.std.proofs.shelf.Tests.{and-parts, ltb-true, lt-ltb, not-true, cond-true, cond-false, cases-bool, eqb-true}
+use Rattle.std.proofs.shelf.Tests.{and-parts, ltb-true, lt-ltb, le-ltb, not-true, cond-true, cond-false, cases-bool, eqb-true}
+use Rattle.std.proofs.shelf.Ways.{tells}
 use Rattle.pools.specs.Counts.{bit, tally, times}
 use Rattle.pools.specs.Meaning.{isOut}
-use Rattle.pools.proofs.Counts.{bit-out, bit-in, tally-le}
-use Rattle.pool_runs.specs.declared.step.Move.{Move}
-use Rattle.pool_runs.specs.declared.step.Move.the-variants.{Take, Give}
-use Rattle.pool_runs.specs.declared.step.Answer.{Answer}
-use Rattle.pool_runs.specs.declared.step.Answer.the-variants.{HandedOut, TakenBack, Refused}
+use Rattle.pools.proofs.Counts.{bit-le, bit-out, bit-in, tally-le}
+use Rattle.pool_runs.specs.declared.moves.Move.{Move}
+use Rattle.pool_runs.specs.declared.moves.Move.the-variants.{Take, Give}
+use Rattle.pool_runs.specs.declared.moves.Answer.{Answer}
+use Rattle.pool_runs.specs.declared.moves.Answer.the-variants.{HandedOut, TakenBack, Refused}
 use Rattle.pool_runs.specs.Runs.{Right, after, without, holding, Answered, ends, outstanding}
 use Rattle.pool_runs.specs.Law.{EachOnce, Throughout}
 
@@ -23,14 +24,14 @@ pub times-without : (x n : ℕ) (xs : List ℕ) → 0 < times x xs → times n (
 times-without x n [] l = absurd (omega arith)
 times-without x n (y ∷ ys) l = ⊎-elim
     (λ (e : eqb y x ≡ true).
-        let here = ap (times n) (cond-true (eqb y x) ys (y ∷ without x ys) e) in
-        let same = ap (λ z. bit (eqb z n)) (eqb-true y x e) in
-        omega arith)
+    let here = ap (times n) (cond-true (eqb y x) ys (y ∷ without x ys) e) in
+    let same = ap (λ z. bit (eqb z n)) (eqb-true y x e) in
+    omega arith)
     (λ (e : eqb y x ≡ false).
-        let here = ap (times n) (cond-false (eqb y x) ys (y ∷ without x ys) e) in
-        let miss = ap bit e in
-        let rest = times-without x n ys (omega arith) in
-        omega arith) (cases-bool (eqb y x))
+    let here = ap (times n) (cond-false (eqb y x) ys (y ∷ without x ys) e) in
+    let miss = ap bit e in
+    let rest = times-without x n ys (omega arith) in
+    omega arith) (cases-bool (eqb y x))
 
 below-same : (bs cs : List Bool) (n : ℕ) → length bs ≡ length cs → bit (ltb n (length bs)) ≡ bit (ltb n (length cs))
 below-same bs cs n e = ap (λ m. bit (ltb n m)) e
@@ -73,9 +74,18 @@ throughout inside out (m ∷ ms) [] a h (suc k) = h
 throughout inside out (m ∷ ms) (r ∷ rs) a h (suc k) = throughout (after inside m r) (holding out m r) ms rs (a .1) (once-after inside out m r (a .0) h) k
 
 all-once : (inside : List Bool) (n : ℕ) → tally inside ≡ length inside → bit (getD inside n false) ≡ bit (ltb n (length inside))
-all-once [] n e = ?
-all-once (b ∷ bs) zero e = ?
-all-once (b ∷ bs) (suc n) e = ?
+all-once [] n e = sym (ap bit (le-ltb n 0 (omega arith)))
+all-once (b ∷ bs) zero e =
+    let least = tally-le bs in
+    let low = ap bit (lt-ltb 0 (suc (length bs)) (omega arith)) in
+    let most = bit-le b in
+    omega arith
+all-once (b ∷ bs) (suc n) e =
+    let least = tally-le bs in
+    let most = bit-le b in
+    let rest = all-once bs n (omega arith) in
+    let same : bit (ltb n (length bs)) ≡ bit (ltb (suc n) (suc (length bs))) = grind (arith, tells) in
+    rest ∙ same
 
 -- a full pool has no number out
 pub once-full : (inside : List Bool) → tally inside ≡ length inside → EachOnce inside []

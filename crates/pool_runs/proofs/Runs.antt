@@ -2,8 +2,8 @@
 use mathlib.Core.Path.{_≡_, refl, sym, ap, subst, _∙_}
 use mathlib.Core.Bool.{Bool}
 use mathlib.Core.List.{List, [], _∷_, _++_}
-use Rattle.pool_runs.specs.declared.step.Move.{Move}
-use Rattle.pool_runs.specs.declared.step.Answer.{Answer}
+use Rattle.pool_runs.specs.declared.moves.Move.{Move}
+use Rattle.pool_runs.specs.declared.moves.Answer.{Answer}
 use Rattle.pool_runs.specs.Runs.{Right, after, Answered, ends}
 
 pub answered-more : (inside : List Bool) (ms : List Move) (rs : List Answer) (m : Move) (r : Answer)
@@ -32,7 +32,8 @@ pub going-more : (inside : List Bool) (ms ms′ : List Move) (rs rs′ : List An
     → Going inside ms rs now → ms′ ≡ ms ++ m ∷ [] → rs′ ≡ rs ++ r ∷ [] → Right now m r → now′ ≡ after now m r → Going inside ms′ rs′ now′
 going-more inside ms ms′ rs rs′ m r now now′ g em er right e =
     let here : Right (ends inside ms rs) m r = subst (λ bs. Right bs m r) (g .1) right in
-    let all = answered-more inside ms rs m r (g .0) here in
-    (subst (λ q. Answered inside q rs′) (sym em) (subst (λ q. Answered inside (ms ++ m ∷ []) q) (sym er) all),
-    e ∙ ap (λ bs. after bs m r) (g .1) ∙ sym (ends-more inside ms rs m r (g .0))
-    ∙ ap (λ q. ends inside q (rs ++ r ∷ [])) (sym em) ∙ ap (λ q. ends inside ms′ q) (sym er))
+    let all = answered-more inside ms rs m r (g .0) here in (
+      subst (λ q. Answered inside q rs′) (sym em) (subst (λ q. Answered inside (ms ++ m ∷ []) q) (sym er) all),
+      e ∙ ap (λ bs. after bs m r) (g .1) ∙ sym (ends-more inside ms rs m r (g .0))
+          ∙ ap (λ q. ends inside q (rs ++ r ∷ [])) (sym em) ∙ ap (λ q. ends inside ms′ q) (sym er),
+    )

@@ -6,8 +6,8 @@ use Prim.Native.Nat.{ℕ, _+_}
 use lib.Dec.{ltb}
 use lib.ListN.{length, getD, take}
 use Rattle.pools.specs.Counts.{bit, tally, times}
-use Rattle.pool_runs.specs.declared.step.Move.{Move}
-use Rattle.pool_runs.specs.declared.step.Answer.{Answer}
+use Rattle.pool_runs.specs.declared.moves.Move.{Move}
+use Rattle.pool_runs.specs.declared.moves.Answer.{Answer}
 use Rattle.pool_runs.specs.Runs.{Answered, ends, outstanding}
 
 -- the numbers that are in, together with those listed as out, are each number of the pool exactly once, and no other

@@ -1,3 +1,3 @@
 pub mod Runs
 pub mod Law
-pub mod Circulation
+pub mod Draws

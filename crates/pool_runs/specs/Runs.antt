@@ -8,10 +8,10 @@ use lib.ListN.{getD, set}
 use Rattle.pools.specs.declared.PoolFault.the-variants.{NoneIn, NotOut}
 use Rattle.pools.specs.Counts.{tally}
 use Rattle.pools.specs.Meaning.{isOut}
-use Rattle.pool_runs.specs.declared.step.Move.{Move}
-use Rattle.pool_runs.specs.declared.step.Move.the-variants.{Take, Give}
-use Rattle.pool_runs.specs.declared.step.Answer.{Answer}
-use Rattle.pool_runs.specs.declared.step.Answer.the-variants.{HandedOut, TakenBack, Refused}
+use Rattle.pool_runs.specs.declared.moves.Move.{Move}
+use Rattle.pool_runs.specs.declared.moves.Move.the-variants.{Take, Give}
+use Rattle.pool_runs.specs.declared.moves.Answer.{Answer}
+use Rattle.pool_runs.specs.declared.moves.Answer.the-variants.{HandedOut, TakenBack, Refused}
 
 -- the answer is a pool's: a take hands out a number that is in, a give takes back one that is out, and only else are they refused
 abbrev pub Right : List Bool → Move → Answer → Type 0

@@ -11,6 +11,14 @@ use Rattle.std.proofs.shelf.Lists.{length-take-le, length-replicate, getD-set-s
 use Rattle.std.proofs.shelf.Tests.{cases-eq, cases-lt, eq-eqb, ne-eqb, lt-ltb}
 use Rattle.pools.specs.Counts.{bit, tally, times}
 
+pub bit-le : (b : Bool) → bit b ≤ 1
+bit-le true = omega arith
+bit-le false = omega arith
+
+pub bit-true : (b : Bool) → 0 < bit b → b ≡ true
+bit-true true l = refl
+bit-true false l = absurd (omega arith)
+
 -- a number that is in is below the size
 pub in-below : (bs : List Bool) (n : ℕ) → getD bs n false ≡ true → n < length bs
 in-below bs n e = ⊎-elim

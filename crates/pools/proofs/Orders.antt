@@ -12,11 +12,7 @@ use Rattle.std.proofs.shelf.Tests.{eq-eqb, ne-eqb}
 use Rattle.std.proofs.shelf.Ways.{tells}
 use Rattle.pools.specs.Counts.{bit, tally, times}
 use Rattle.pools.specs.Orders.{first, Listed}
-use Rattle.pools.proofs.Counts.{bit-out, bit-in, tally-out, tally-in, tally-all, times-append}
-
-bit-true : (b : Bool) → 0 < bit b → b ≡ true
-bit-true true l = refl
-bit-true false l = absurd (omega arith)
+use Rattle.pools.proofs.Counts.{bit-true, bit-out, bit-in, tally-out, tally-in, tally-all, times-append}
 
 -- a number on the list is in
 pub listed-in : (x : ℕ) (xs : List ℕ) (bs : List Bool) → Listed (x ∷ xs) bs → getD bs x false ≡ true

@@ -2,8 +2,7 @@
 ghost use mathlib.Core.Path.{_≡_};
 ghost use Rattle.std.specs.Of.Vec.{vec-items};
 ghost use Rattle.std.specs.Vec.{made};
-ghost use Rattle.pool_runs.specs.Circulation.{Drawn};
-
+ghost use Rattle.pool_runs.specs.Draws.{Drawn};
 use pools::Pool;
 use std::alloc::AllocError;
 use std::alloc::Global;

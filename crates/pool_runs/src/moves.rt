@@ -1,9 +1,11 @@
 // One move on a pool, and its answer.
 ghost use mathlib.Core.Path.{_≡_};
 ghost use Rattle.pool_runs.specs.Runs.{Right, after};
-
 use pools::Pool;
 use pools::PoolFault;
+use pools::PoolFaultDebug;
+use pools::PoolFaultEq;
+use pools::PoolFaultPartialEq;
 
 // A move: to take a number, or to give one back.
 #[derive(Clone, Copy, PartialEq, Eq, Debug)]

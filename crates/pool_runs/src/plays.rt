@@ -3,10 +3,9 @@ ghost use mathlib.Core.Path.{_≡_};
 ghost use Rattle.std.specs.Of.Vec.{vec-items};
 ghost use Rattle.std.specs.Results.{Cases};
 ghost use Rattle.pool_runs.specs.Law.{Played};
-
-use crate::step::Answer;
-use crate::step::Move;
-use crate::step::step;
+use crate::moves::Answer;
+use crate::moves::Move;
+use crate::moves::step;
 use pools::Pool;
 use std::alloc::AllocError;
 use std::alloc::Global;
