@@ -11,7 +11,7 @@ returns-then-number-self c =
     let s = c .args .self .now in
     let n = c .args .number in
     let did : Refused (s .size) (s .ins) n = elim (c .then-number-self .came) [
-      | then-number-self·by·then-number-self w ↦ refused-past (s .size) (s .ins) (omega arith) n (w .if-number-self .taken)
+      | then-number-self·by·then-number-self w ↦ refused-past (s .size) (s .ins) (omega arith) n (omega (arith, w .if-number-self .taken))
       | then-number-self·by·else-number-self·then-self-number w ↦ refused-in (s .size) (s .ins) n (w .if-number-self .left) (w .if-self-number .taken)
     ] in
     record { answer = did .answer; leaves = did .leaves; unmoved = refl; order = tt }
