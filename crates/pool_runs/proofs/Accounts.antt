@@ -6,12 +6,12 @@ use mathlib.Core.Logic.{⊎-elim}
 use Prim.Native.Nat.{ℕ, zero, suc, _+_, _<_, _≤_}
 use native.Mathlib.Omega.{arith}
 use lib.Dec.{eqb, ltb}
-use lib.ListN.{length, length-set, getD, set, take}
-use Rattle.std.proofs.shelf.Tests.{and-parts, ltb-true, lt-ltb, le-ltb, not-true, cond-true, cond-false, cases-bool, eqb-true}
-use Rattle.std.proofs.shelf.Ways.{tells}
+use lib.ListN.{length, length-set, getD, set, take, replicate}
+use Rattle.std.proofs.shelf.Tests.{cases-lt, and-parts, ltb-true, lt-ltb, le-ltb, not-true, cond-true, cond-false, cases-bool, eqb-true}
+use Rattle.std.proofs.shelf.Lists.{getD-past, getD-replicate}
 use Rattle.pools.specs.Counts.{bit, tally, times}
 use Rattle.pools.specs.Meaning.{isOut}
-use Rattle.pools.proofs.Counts.{bit-le, bit-out, bit-in, tally-le}
+use Rattle.pools.proofs.Counts.{bit-out, bit-in, tally-full}
 use Rattle.pool_runs.specs.declared.moves.Move.{Move}
 use Rattle.pool_runs.specs.declared.moves.Move.the-variants.{Take, Give}
 use Rattle.pool_runs.specs.declared.moves.Answer.{Answer}
@@ -73,20 +73,15 @@ throughout inside out [] rs a h (suc k) = h
 throughout inside out (m ∷ ms) [] a h (suc k) = h
 throughout inside out (m ∷ ms) (r ∷ rs) a h (suc k) = throughout (after inside m r) (holding out m r) ms rs (a .1) (once-after inside out m r (a .0) h) k
 
-all-once : (inside : List Bool) (n : ℕ) → tally inside ≡ length inside → bit (getD inside n false) ≡ bit (ltb n (length inside))
-all-once [] n e = sym (ap bit (le-ltb n 0 (omega arith)))
-all-once (b ∷ bs) zero e =
-    let least = tally-le bs in
-    let low = ap bit (lt-ltb 0 (suc (length bs)) (omega arith)) in
-    let most = bit-le b in
-    omega arith
-all-once (b ∷ bs) (suc n) e =
-    let least = tally-le bs in
-    let most = bit-le b in
-    let rest = all-once bs n (omega arith) in
-    let same : bit (ltb n (length bs)) ≡ bit (ltb (suc n) (suc (length bs))) = grind (arith, tells) in
-    rest ∙ same
-
 -- a full pool has no number out
 pub once-full : (inside : List Bool) → tally inside ≡ length inside → EachOnce inside []
-once-full inside e n = let h = all-once inside n e in omega arith
+once-full inside e n = ⊎-elim
+    (λ (l : n < length inside).
+    let here = ap (λ bs. bit (getD bs n false)) (tally-full inside e) in
+    let one = ap bit (getD-replicate (length inside) n true false l) in
+    let low = ap bit (lt-ltb n (length inside) l) in
+    omega arith)
+    (λ (l : length inside ≤ n).
+    let past = ap bit (getD-past inside n false l) in
+    let high = ap bit (le-ltb n (length inside) l) in
+    omega arith) (cases-lt n (length inside))

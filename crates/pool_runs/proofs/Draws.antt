@@ -2,19 +2,15 @@
 use mathlib.Core.Path.{_≡_, refl, sym, ap, subst, _∙_}
 use mathlib.Core.Bool.{Bool, true, false}
 use mathlib.Core.List.{List, [], _∷_, _++_}
-use mathlib.Core.Logic.{⊎-elim}
 use Prim.Native.Nat.{ℕ, _+_, _<_, _≤_}
 use native.Mathlib.Omega.{arith}
-use lib.Dec.{eqb}
 use lib.ListN.{length, length-set, length-append, getD, set}
 use Rattle.std.proofs.shelf.Lists.{ext-getD}
-use Rattle.std.proofs.shelf.Tests.{cases-bool, cond-true, cond-false, eqb-false, eq-eqb, ne-eqb}
-use Rattle.std.specs.declared.result.Result.{Result}
-use Rattle.std.specs.declared.result.Result.the-variants.{Ok, Err}
-use Rattle.pools.specs.declared.PoolFault.{PoolFault}
-use Rattle.pools.specs.declared.PoolFault.the-variants.{NoneIn}
+use Rattle.std.proofs.shelf.Tests.{eq-eqb}
+use Rattle.std.specs.declared.result.Result.the-variants.{Ok}
 use Rattle.pools.specs.Counts.{bit, tally, times}
 use Rattle.pools.specs.Meaning.{taken, left, gained}
+use Rattle.pools.proofs.Moves.{taken-ok, left-some}
 use Rattle.pools.proofs.Counts.{bit-le, bit-true, bit-out, bit-in, tally-out, times-append, in-below}
 
 -- the numbers out are those that were in and are not in now, each once
@@ -27,28 +23,19 @@ pub drew-none : (was : List Bool) (out : List ℕ) → out ≡ [] → Drew was w
 drew-none was out e =
     subst (λ ns. Drew was was ns) (sym e) (record { long = refl; many = omega arith; each = λ n. omega arith })
 
--- a take where some are in
-pub some-in : (now : List Bool) (next : ℕ) (r : Result ℕ PoolFault) → r ≡ taken now next → 0 < tally now → r ≡ Ok next
-some-in now next r e l = e ∙ cond-false (eqb (tally now) 0) (Err NoneIn) (Ok next) (ne-eqb (tally now) 0 (λ z. omega arith))
-
 -- a take that hands a number out
 pub drew-more : (was now now′ : List Bool) (out out′ : List ℕ) (x next : ℕ) → Drew was now out → Ok x ≡ taken now next → now′ ≡ left now next
     → (0 < tally now → getD now next false ≡ true) → out′ ≡ out ++ x ∷ [] → Drew was now′ out′
-drew-more was now now′ out out′ x next d e moved chosen eo = ⊎-elim
-    (λ (t : eqb (tally now) 0 ≡ true).
-    let z : _≡_ {A = ℕ} 0 1 = cc (e ∙ cond-true (eqb (tally now) 0) (Err NoneIn) (Ok next) t) in absurd (omega arith))
-    (λ (f : eqb (tally now) 0 ≡ false).
-    let same : x ≡ next = cc (e ∙ cond-false (eqb (tally now) 0) (Err NoneIn) (Ok next) f) in
-    let less : now′ ≡ set now x false = moved ∙ cond-false (eqb (tally now) 0) now (set now next false) f ∙ ap (λ n. set now n false) (sym same) in
-    let some : tally now ≡ 0 → ⊥ = eqb-false (tally now) 0 f in
-    let here : getD now x false ≡ true = ap (λ n. getD now n false) same ∙ chosen (omega arith) in
-    let next-state : Drew was (set now x false) (out ++ x ∷ []) = record {
+drew-more was now now′ out out′ x next d e moved chosen eo =
+    let ok = taken-ok now next x e in
+    let less : now′ ≡ set now x false = moved ∙ sym (left-some now next (ok .0)) ∙ ap (λ n. set now n false) (sym (ok .1)) in
+    let here : getD now x false ≡ true = ap (λ n. getD now n false) (ok .1) ∙ chosen (ok .0) in
+    let drew : Drew was (set now x false) (out ++ x ∷ []) = record {
       long = length-set now x false ∙ d .long;
       many = let a = d .many in let b = tally-out now x here in let c = length-append out (x ∷ []) in omega arith;
       each = λ n. let a = d .each n in let b = bit-out now x n here in let c = times-append n out (x ∷ []) in omega arith;
     } in
-    subst (λ bs. Drew was bs out′) (sym less) (subst (λ ns. Drew was (set now x false) ns) (sym eo) next-state))
-    (cases-bool (eqb (tally now) 0))
+    subst (λ bs. Drew was bs out′) (sym less) (subst (λ ns. Drew was (set now x false) ns) (sym eo) drew)
 
 -- the numbers are given back one after another
 abbrev pub returned : List Bool → List ℕ → List Bool

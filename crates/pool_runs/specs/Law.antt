@@ -22,9 +22,9 @@ Throughout inside out moves answers = (k : ℕ) → EachOnce (ends inside (take 
 pub record Played (inside : List Bool) (moves : List Move) (answers : List Answer) (end : List Bool) : Type 0 where
   -- each move was made, and answered as a pool answers
   pub answered : Answered inside moves answers
-  -- and nothing else was
+  -- what is in at the end follows from the answers alone
   pub leads : end ≡ ends inside moves answers
-  -- from a full pool, each number is always in or out, and once
+  -- started full, each number is always in or out, and once
   pub from-full : tally inside ≡ length inside → Throughout inside [] moves answers
-  -- and so from any pool whose numbers out are known
+  -- and so from any start at which the numbers out are known
   pub from-any : (out : List ℕ) → EachOnce inside out → Throughout inside out moves answers

@@ -73,6 +73,12 @@ pub tally-all : (n : ℕ) → tally (replicate n true) ≡ n
 tally-all zero = refl
 tally-all (suc n) = let h = tally-all n in omega arith
 
+-- where as many are in as there are, all are
+pub tally-full : (bs : List Bool) → tally bs ≡ length bs → bs ≡ replicate (length bs) true
+tally-full [] e = refl
+tally-full (true ∷ bs) e = ap (λ cs. true ∷ cs) (tally-full bs (omega arith))
+tally-full (false ∷ bs) e = absurd (omega (arith, tally-le bs))
+
 -- an array of tests that holds below the size
 pub all-in : (size : ℕ) (ins : List Bool) → size ≤ length ins → ((k : ℕ) → k < size → getD ins k false ≡ ltb k size) → take size ins ≡ replicate size true
 all-in size ins l each =

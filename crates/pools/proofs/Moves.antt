@@ -2,13 +2,14 @@
 use mathlib.Core.Path.{_≡_, refl, sym, ap, subst, _∙_}
 use mathlib.Core.Bool.{Bool, true, false, not, _&&_}
 use mathlib.Core.List.{List, [], _∷_, _++_}
+use mathlib.Core.Logic.{⊎-elim}
 use Prim.Native.Nat.{ℕ, _<_, _≤_}
 use native.Mathlib.Omega.{arith}
 use lib.Dec.{eqb, ltb}
 use lib.ListN.{length, getD, set, take}
 use lib.Seq.{take-set-lt, getD-take, length-take-le}
 use Rattle.std.proofs.shelf.Lists.{set-getD, set-past}
-use Rattle.std.proofs.shelf.Tests.{eq-eqb, ne-eqb, lt-ltb, le-ltb, cond-true, cond-false, and-from, and-left, and-right, not-from-true, not-from-false}
+use Rattle.std.proofs.shelf.Tests.{cases-eq, eq-eqb, ne-eqb, lt-ltb, le-ltb, cond-true, cond-false, and-from, and-left, and-right, not-from-true, not-from-false}
 use Rattle.std.specs.declared.result.Result.{Result}
 use Rattle.std.specs.declared.result.Result.the-variants.{Ok, Err}
 use Rattle.pools.specs.declared.PoolFault.{PoolFault}
@@ -26,6 +27,20 @@ taken-none inside next e = sym (cond-true _ _ _ (eq-eqb (tally inside) 0 e))
 pub left-none : (inside : List Bool) (next : ℕ) → tally inside ≡ 0 → inside ≡ left inside next
 left-none inside next e = sym (cond-true _ _ _ (eq-eqb (tally inside) 0 e))
 
+-- a take where some are in
+pub taken-some : (inside : List Bool) (next : ℕ) → 0 < tally inside → Ok next ≡ taken inside next
+taken-some inside next l = sym (cond-false _ _ _ (ne-eqb (tally inside) 0 (λ z. omega arith)))
+
+pub left-some : (inside : List Bool) (next : ℕ) → 0 < tally inside → set inside next false ≡ left inside next
+left-some inside next l = sym (cond-false _ _ _ (ne-eqb (tally inside) 0 (λ z. omega arith)))
+
+-- a take that was answered by a number
+pub taken-ok : (inside : List Bool) (next n : ℕ) → Ok n ≡ taken inside next → (0 < tally inside) × (n ≡ next)
+taken-ok inside next n e = ⊎-elim
+    (λ (none : tally inside ≡ 0). let z : _≡_ {A = ℕ} 0 1 = cc (e ∙ sym (taken-none inside next none)) in absurd (omega arith))
+    (λ (some : tally inside ≡ 0 → ⊥). let l : 0 < tally inside = omega arith in (l, cc (e ∙ sym (taken-some inside next l))))
+    (cases-eq (tally inside) 0)
+
 module _ (size : ℕ) (ins : List Bool) where
   -- the number x is handed out, and xs are still in
   pub record Took (order : List ℕ) (x : ℕ) (xs : List ℕ) : Type 0 where
@@ -40,13 +55,13 @@ module _ (size : ℕ) (ins : List Bool) where
       let here = listed-in x xs (take size ins) h′ in
       let short = length-take-le size ins long in
       let low : x < size = let l = in-below (take size ins) x here in omega arith in
-      let some : eqb (tally (take size ins)) 0 ≡ false = ne-eqb _ _ (λ z. let many = h′ .0 in omega arith) in
+      let some : 0 < tally (take size ins) = let many = h′ .0 in omega arith in
       let moved = take-set-lt size ins x false low in
       let head : first order ≡ x = ap first e in
       record {
         low = low;
-        answer = ap Ok (sym head) ∙ sym (cond-false _ _ _ some);
-        leaves = moved ∙ ap (λ n. set (take size ins) n false) (sym head) ∙ sym (cond-false _ _ _ some);
+        answer = ap Ok (sym head) ∙ taken-some (take size ins) (first order) some;
+        leaves = moved ∙ ap (λ n. set (take size ins) n false) (sym head) ∙ left-some (take size ins) (first order) some;
         listed = subst (λ bs. Listed xs bs) (sym moved) (listed-out x xs (take size ins) h′);
       }
 

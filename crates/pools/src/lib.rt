@@ -34,6 +34,7 @@ pub enum PoolFault {
     NotOut,
 }
 
+// A refusal as it is reported.
 pub impl From<PoolFault> for Fault as FaultOfPool {
     ghost converts = { λ refusal r. r ≡ fault refusal };
 
@@ -51,6 +52,7 @@ pub impl From<PoolFault> for Fault as FaultOfPool {
     }
 }
 
+// A refusal prints as it is reported: layer, number, place.
 pub impl fmt::Display for PoolFault as PoolFaultDisplay {
     ghost shown = { λ refusal. Some (printed (fault refusal)) };
 
@@ -68,8 +70,10 @@ pub trait Pool {
     // The number that is handed out next, if any is in: the pool's own choice.
     ghost next: { Self → ℕ };
 
+    // A pool has at most 2,048 numbers.
     law limited: { (pool : Self) → length (inside pool) ≤ 2048 };
 
+    // Where any is in, the next one is.
     law chosen: { (pool : Self) → 0 < tally (inside pool) → getD (inside pool) (next pool) false ≡ true };
 
     // How many numbers the pool has.

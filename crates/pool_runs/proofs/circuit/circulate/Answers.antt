@@ -5,7 +5,8 @@ use lib.ListN.{length, drop}
 use Rattle.std.proofs.shelf.Lists.{at-drop-more, at-drop-all}
 use Rattle.std.specs.Of.Vec.{vec-items, vec-len, vec-cap}
 use Rattle.pools.specs.Counts.{tally}
-use Rattle.pool_runs.proofs.Draws.{drew-none, some-in, drew-more, returned, drew-back}
+use Rattle.pools.proofs.Moves.{taken-some}
+use Rattle.pool_runs.proofs.Draws.{drew-none, drew-more, returned, drew-back}
 use Rattle.pool_runs.proofs.circuit.circulate.Needs as need
 use Rattle.pool_runs.proofs.circuit.circulate.Needs.{in-Ok, in-rest}
 
@@ -35,7 +36,7 @@ loop-again g c =
           let same : vec-len (l .numbers) ≡ length (vec-items (l .numbers)) = l .numbers .ok .0 in
           let least = c .min-many .ensures in
           let some : 0 < tally now = omega arith in
-          absurd (w .in-rest .not-Ok next (some-in now next (c .take .result) (c .take .ensures .answer) some))
+          absurd (w .in-rest .not-Ok next (c .take .ensures .answer ∙ sym (taken-some now next some)))
     ]
 
 pub loop-number-again : need.loop-number-again
