@@ -1,0 +1,5 @@
+pub mod Counts
+pub mod Orders
+pub mod Moves
+pub mod Stacks
+pub mod Rings
