@@ -1,0 +1,4 @@
+pub mod Judging
+pub mod EightBytes
+pub mod ReadingRoundTrip
+pub mod BranchRoundTrip
