@@ -30,3 +30,8 @@ wordAt bytes from = getD bytes from 0 + getD bytes (from + 1) 0 * 256 + getD byt
 abbrev pub judged : {R : Type 0} → List (Bool × RecordFault) → R → Result R RecordFault
 judged [] found = Ok found
 judged (field ∷ fields) found = cond (field .0) (judged fields found) (Err (field .1))
+
+-- accepted bytes as they are, or the fault of the others
+abbrev pub restored : {R : Type 0} → Result R RecordFault → List ℕ → Result (List ℕ) RecordFault
+restored (Ok found) bytes = Ok bytes
+restored (Err fault) bytes = Err fault
