@@ -69,11 +69,11 @@ pub impl Kind for Reading as ReadingKind {
 fn analogue(bits: u32) -> Result<Reading, RecordFault>
     ensures { λ r. ⌜ r ≡ cond (isNan (ofBits binary32 bits)) (Err WrongValue) (Ok (Analogue (ofBits binary32 bits))) ⌝ }
 {
-    let value = f32_from_bits_with_nan(bits);
-    if value.is_nan() {
+    let measured = f32_from_bits_with_nan(bits);
+    if measured.is_nan() {
         return Err(RecordFault::WrongValue);
     }
-    Ok(Reading::Analogue(value))
+    Ok(Reading::Analogue(measured))
 }
 
 // A measured value in its place; one that is not a number is laid out as missing.
@@ -82,10 +82,9 @@ fn laid_analogue(value: f32) -> [u8; 8]
     ensures returns { λ r. ⌜ decodedReading r ≡ Ok (keptReading (Analogue value)) ⌝ }
 {
     if value.is_nan() {
-        laid(0, 0)
-    } else {
-        laid(1, value.to_bits())
+        return laid(0, 0);
     }
+    laid(1, value.to_bits())
 }
 
 // A sort and a value in their places.
