@@ -1,0 +1,37 @@
+-- The hexadecimal digits of bytes.
+use mathlib.Core.Path.{_≡_, refl, sym, ap, _∙_}
+use mathlib.Core.Bool.{cond}
+use mathlib.Core.List.{List, [], _∷_, _++_, append-nil, append-assoc}
+use Prim.Native.Nat.{ℕ, _+_, _/_, _%_, _<_, _≤_}
+use native.Mathlib.Omega.{arith}
+use lib.Utf8.{encode}
+use lib.ListN.{length, getD, take}
+use Rattle.std.proofs.shelf.Ascii.{encode-ascii}
+use Rattle.std.proofs.shelf.Lists.{take-more, take-all}
+use Rattle.std.proofs.shelf.Ways.{tells}
+use Rattle.records.specs.Hexadecimal.{digit, byteDigits, bytesDigits}
+
+digit-ascii : (n : ℕ) → n < 16 → digit n < 128
+digit-ascii n small = grind (arith, tells)
+
+encode-digit : (n : ℕ) → n < 16 → encode (digit n) ≡ digit n ∷ []
+encode-digit n small = encode-ascii (digit n) (digit-ascii n small)
+
+-- a byte's two digits as text
+pub encode-byte : (byte high low : ℕ) → byte < 256 → high ≡ digit (byte / 16) → low ≡ digit (byte % 16) → encode high ++ encode low ≡ byteDigits byte
+encode-byte byte high low small h l =
+    ap (λ c. encode c ++ encode low) h ∙ ap (λ c. encode (digit (byte / 16)) ++ encode c) l
+    ∙ ap (λ cs. cs ++ encode (digit (byte % 16))) (encode-digit (byte / 16) (omega arith))
+    ∙ ap (λ cs. digit (byte / 16) ∷ cs) (encode-digit (byte % 16) (omega arith))
+
+digits-append : (xs : List ℕ) (y : ℕ) → bytesDigits (xs ++ (y ∷ [])) ≡ bytesDigits xs ++ byteDigits y
+digits-append [] y = refl
+digits-append (x ∷ xs) y = ap (λ cs. byteDigits x ++ cs) (digits-append xs y)
+
+-- one byte more
+pub digits-more : (xs : List ℕ) (i : ℕ) → i < length xs → bytesDigits (take i xs) ++ byteDigits (getD xs i 0) ≡ bytesDigits (take (i + 1) xs)
+digits-more xs i inside = sym (digits-append (take i xs) (getD xs i 0)) ∙ ap bytesDigits (sym (take-more xs i 0 inside))
+
+-- all bytes
+pub digits-all : (xs : List ℕ) (i : ℕ) → length xs ≤ i → bytesDigits (take i xs) ≡ bytesDigits xs
+digits-all xs i past = ap bytesDigits (take-all i xs past)

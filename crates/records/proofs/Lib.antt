@@ -1,0 +1,5 @@
+pub mod Judging
+pub mod EightBytes
+pub mod ReadingRoundTrip
+pub mod BranchRoundTrip
+pub mod Digits

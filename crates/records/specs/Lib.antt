@@ -1,0 +1,5 @@
+pub mod Layout
+pub mod Refusals
+pub mod Readings
+pub mod Branches
+pub mod Hexadecimal
