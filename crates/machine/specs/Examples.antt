@@ -1,0 +1,123 @@
+-- The worked examples: one table of calls and the lines that they print, and what the keeper is then.
+use mathlib.Core.Path.{_≡_}
+use mathlib.Core.Bool.{true}
+use mathlib.Core.List.{List, [], _∷_, _++_, map}
+use Prim.Native.Nat.{ℕ}
+use lib.ListN.{replicate}
+use Rattle.std.specs.Iters.{counting}
+use Rattle.std.specs.declared.option.Option.{Option}
+use Rattle.std.specs.declared.option.Option.the-variants.{None, Some}
+use Rattle.figures.specs.declared.limits.Form.{Form}
+use Rattle.records.specs.declared.readings.Reading.{Reading}
+use Rattle.records.specs.declared.readings.Reading.the-variants.{Missing}
+use Rattle.machine.specs.declared.calls.Call.{Call}
+use Rattle.machine.specs.declared.calls.Call.the-variants.{Take, Look, Drop, Retire, Relink, Turn}
+use Rattle.machine.specs.declared.calls.Value.the-variants.{Block}
+use Rattle.machine.specs.State.{fresh, block}
+use Rattle.machine.specs.Runs.{Beside, Line, line, on-stack, in-row, ends-beside, replies-beside}
+
+-- one worker with one hold, every period 1, two blocks that may both be live, and a starting era
+abbrev pub small : ℕ → Form
+small era = record { workers = 1; holds = 1; blocks = 2; live = 2; «taking_period» = 1; «trying_period» = 1; «starting_era» = era }
+
+-- a keeper of readings as it is made, beside a pool that hands out 0, 1, 2 and so on
+abbrev pub made : Form → Beside Reading
+made form = record { state = record { core = fresh form; inside = replicate (form .blocks) true; table = replicate (form .blocks) Missing }; order = counting 0 (form .blocks) }
+
+-- a take with its two turns
+abbrev pub taking : List (Call Reading)
+taking = Take 0 ∷ replicate 2 (Turn 0)
+
+-- block 0 becomes what anchor 0 holds, and is looked at there
+abbrev pub looking : List (Call Reading)
+looking = Relink 0 0 None (Some 0) ∷ Look 0 0 0 ∷ replicate 7 (Turn 0)
+
+-- it is cut out and retired, and its batch is tried
+abbrev pub cutting : List (Call Reading)
+cutting = Relink 0 0 (Some 0) None ∷ Retire 0 0 ∷ Turn 0 ∷ []
+
+-- block 1 is taken and retired, and the batch is tried again
+abbrev pub hanging : List (Call Reading)
+hanging = taking ++ (Retire 0 1 ∷ replicate 3 (Turn 0))
+
+-- the hold is dropped
+abbrev pub dropping : List (Call Reading)
+dropping = Drop 0 ∷ replicate 3 (Turn 0)
+
+-- a line with no value and nothing given back: the call is finished, goes on, or is refused
+abbrev pub plain : ℕ → Line Reading
+plain status = record { status = status; value = None; given = 0 }
+
+abbrev pub done : Line Reading
+done = plain 0
+
+abbrev pub on : Line Reading
+on = plain 1
+
+-- a task ends with a block as its value
+abbrev pub with-value : ℕ → Line Reading
+with-value b = record { status = 0; value = Some (Block b); given = 0 }
+
+-- a call gives blocks back
+abbrev pub with-given : ℕ → ℕ → Line Reading
+with-given status n = record { status = status; value = None; given = n }
+
+-- an example: over a pool, from a making and after some calls, calls and the lines that they print
+pub record Example : Type 0 where
+  pub puts : List ℕ → ℕ → List ℕ
+  pub form : Form
+  pub before : List (Call Reading)
+  pub calls : List (Call Reading)
+  pub lines : List (Line Reading)
+
+abbrev pub example : (List ℕ → ℕ → List ℕ) → ℕ → List (Call Reading) → List (Call Reading) → List (Line Reading) → Example
+example puts era before calls lines = record { puts = puts; form = small era; before = before; calls = calls; lines = lines }
+
+-- what an example's calls print
+abbrev pub printed : Example → List (Line Reading)
+printed e = map line (replies-beside (e .puts) (ends-beside (e .puts) (made (e .form)) (e .before)) (e .calls))
+
+abbrev pub examples : List Example
+examples =
+    -- a take ends at its second turn with block 0; a turn without a task is refused
+    example on-stack 1 [] (taking ++ (Turn 0 ∷ [])) (on ∷ on ∷ with-value 0 ∷ plain 104 ∷ [])
+    -- then it is linked, and a look at it ends at its seventh turn, showing 0
+    ∷ example on-stack 1 taking looking (done ∷ on ∷ on ∷ on ∷ on ∷ on ∷ on ∷ on ∷ with-value 0 ∷ [])
+    -- then it is cut out and retired; the try ends at its first turn, and the batch stays
+    ∷ example on-stack 1 (taking ++ looking) cutting (done ∷ on ∷ done ∷ [])
+    -- then a take ends with block 1; it is retired, and three turns give nothing back
+    ∷ example on-stack 1 (taking ++ (looking ++ cutting)) hanging (on ∷ on ∷ with-value 1 ∷ on ∷ on ∷ on ∷ done ∷ [])
+    -- then a drop's three turns give back 0, 2 and 0 blocks
+    ∷ example on-stack 1 (taking ++ (looking ++ (cutting ++ hanging))) dropping (on ∷ on ∷ with-given 1 2 ∷ done ∷ [])
+    -- the next take answers 0 on a stack and 1 on a row
+    ∷ example on-stack 1 (taking ++ (looking ++ (cutting ++ (hanging ++ dropping)))) taking (on ∷ on ∷ with-value 0 ∷ [])
+    ∷ example in-row 1 (taking ++ (looking ++ (cutting ++ (hanging ++ dropping)))) taking (on ∷ on ∷ with-value 1 ∷ [])
+    -- in a fresh keeper, after a take and a retire, the second turn of the try gives back 1
+    ∷ example on-stack 1 taking (Retire 0 0 ∷ replicate 2 (Turn 0)) (on ∷ on ∷ with-given 0 1 ∷ [])
+    -- at the last era a take ends with era spent, and one before it does not
+    ∷ example on-stack 4294967295 [] (Take 0 ∷ Turn 0 ∷ []) (on ∷ plain 110 ∷ [])
+    ∷ example on-stack 4294967294 [] taking (on ∷ on ∷ with-value 0 ∷ [])
+    -- after the failed try one take answers 1, and the next ends with dry
+    ∷ example on-stack 1 (taking ++ (looking ++ cutting)) (taking ++ taking) (on ∷ on ∷ with-value 1 ∷ on ∷ on ∷ plain 109 ∷ [])
+    -- while it is linked, block 0 is not retired; once it is retired, it is withdrawn
+    ∷ example on-stack 1 (taking ++ looking) (Retire 0 0 ∷ []) (plain 107 ∷ [])
+    ∷ example on-stack 1 (taking ++ (looking ++ cutting)) (Retire 0 0 ∷ []) (plain 106 ∷ [])
+    -- hold 1 of a worker with one hold is a stranger
+    ∷ example on-stack 1 [] (Look 0 1 0 ∷ []) (plain 102 ∷ [])
+    ∷ []
+
+-- the examples print the lines that stand with them
+abbrev pub Worked : Type 0
+Worked = map printed examples ≡ map (λ e. e .lines) examples
+
+-- the end of calls over a stack
+abbrev pub end-of : List (Call Reading) → Beside Reading
+end-of calls = ends-beside on-stack (made (small 1)) calls
+
+-- and what the keeper is after some of them: the era, the births, and the count of the batch that hangs
+abbrev pub Then : Type 0
+Then =
+    (end-of taking .state .core .era ≡ 2)
+    × (block (end-of taking .state .core) 0 .birth ≡ 2)
+    × (end-of (taking ++ (looking ++ (cutting ++ taking))) .state .core .era ≡ 3)
+    × (block (end-of (taking ++ (looking ++ (cutting ++ hanging))) .state .core) 0 .count ≡ 1)

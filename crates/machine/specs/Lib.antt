@@ -1,0 +1,15 @@
+pub mod Refusals
+pub mod State
+pub mod Cells
+pub mod Hands
+pub mod Moves
+pub mod Taking
+pub mod Walking
+pub mod Looking
+pub mod Dropping
+pub mod Trying
+pub mod Turns
+pub mod Calls
+pub mod Machine
+pub mod Runs
+pub mod Examples
