@@ -1,0 +1,9 @@
+pub mod Lines
+pub mod Scenario1
+pub mod Scenario2
+pub mod Scenario3
+pub mod Scenario4
+pub mod Scenario5
+pub mod Scenario6
+pub mod Scenario7
+pub mod Scenario8
