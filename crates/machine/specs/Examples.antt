@@ -73,6 +73,28 @@ pub record Example : Type 0 where
 abbrev pub example : (List ℕ → ℕ → List ℕ) → ℕ → List (Call Reading) → List (Call Reading) → List (Line Reading) → Example
 example puts era before calls lines = record { puts = puts; form = small era; before = before; calls = calls; lines = lines }
 
+abbrev pub example-of : Form → List (Call Reading) → List (Call Reading) → List (Line Reading) → Example
+example-of form before calls lines = record { puts = on-stack; form = form; before = before; calls = calls; lines = lines }
+
+-- worker w takes a block, or looks at anchor 0 for the first time
+abbrev pub taking-by : ℕ → List (Call Reading)
+taking-by w = Take w ∷ replicate 2 (Turn w)
+
+abbrev pub looking-by : ℕ → List (Call Reading)
+looking-by w = Look w 0 0 ∷ replicate 7 (Turn w)
+
+-- as small, but a batch is tried only at every second retiring
+abbrev pub paired : Form
+paired = record { workers = 1; holds = 1; blocks = 3; live = 3; «taking_period» = 1; «trying_period» = 2; «starting_era» = 1 }
+
+-- three workers, whose batches are tried at every third retiring
+abbrev pub trio : Form
+trio = record { workers = 3; holds = 1; blocks = 4; live = 4; «taking_period» = 1; «trying_period» = 3; «starting_era» = 1 }
+
+-- worker 2 has three blocks, and the other two have reservations
+abbrev pub ready : List (Call Reading)
+ready = taking-by 2 ++ (taking-by 2 ++ (taking-by 2 ++ (looking-by 0 ++ looking-by 1)))
+
 -- what an example's calls print
 abbrev pub printed : Example → List (Line Reading)
 printed e = map line (replies-beside (e .puts) (ends-beside (e .puts) (made (e .form)) (e .before)) (e .calls))
@@ -102,8 +124,17 @@ examples =
     -- while it is linked, block 0 is not retired; once it is retired, it is withdrawn
     ∷ example on-stack 1 (taking ++ looking) (Retire 0 0 ∷ []) (plain 107 ∷ [])
     ∷ example on-stack 1 (taking ++ (looking ++ cutting)) (Retire 0 0 ∷ []) (plain 106 ∷ [])
-    -- hold 1 of a worker with one hold is a stranger
+    -- hold 1 of a worker with one hold is a stranger, to a busy worker too
     ∷ example on-stack 1 [] (Look 0 1 0 ∷ []) (plain 102 ∷ [])
+    ∷ example on-stack 1 (Take 0 ∷ []) (Look 0 1 0 ∷ Look 0 0 0 ∷ []) (plain 102 ∷ plain 103 ∷ [])
+    -- a drop sets the era back, so that the next look takes seven turns again
+    ∷ example on-stack 1 (taking ++ (looking ++ (Drop 0 ∷ replicate 2 (Turn 0)))) (looking-by 0) (on ∷ on ∷ on ∷ on ∷ on ∷ on ∷ on ∷ with-value 0 ∷ [])
+    -- a batch is as old as its oldest block, which need not be the lead: block 0, which is shown, is kept
+    ∷ example-of paired (taking ++ (looking ++ taking)) (Retire 0 1 ∷ Relink 0 0 (Some 0) None ∷ Retire 0 0 ∷ replicate 3 (Turn 0)) (done ∷ done ∷ on ∷ on ∷ on ∷ done ∷ [])
+    -- between two hangings a walk does not bring the count to 0; the second to let go gives all three back
+    ∷ example-of trio ready
+    (Retire 2 0 ∷ Retire 2 1 ∷ Retire 2 2 ∷ replicate 4 (Turn 2) ++ (Drop 0 ∷ replicate 3 (Turn 0) ++ (replicate 2 (Turn 2) ++ (Drop 1 ∷ replicate 3 (Turn 1)))))
+    (done ∷ done ∷ on ∷ on ∷ on ∷ on ∷ on ∷ on ∷ on ∷ on ∷ done ∷ on ∷ done ∷ on ∷ on ∷ with-given 1 3 ∷ done ∷ [])
     ∷ []
 
 -- the examples print the lines that stand with them

@@ -19,5 +19,4 @@ pub fn scenarios_agree()
     ensures sixth { λ _. ⌜ Agrees scenario-6 ⌝ }
     ensures seventh { λ _. ⌜ Agrees scenario-7 ⌝ }
     ensures eighth { λ _. ⌜ Agrees scenario-8 ⌝ }
-{
-}
+{}
