@@ -1,12 +1,12 @@
 -- Each number of the pool is in or out, and once.
-use mathlib.Core.Path.{_≡_, refl, sym, ap, subst, _∙_}
-use mathlib.Core.Bool.{Bool, true, false, not, _&&_, cond}
+use mathlib.Core.Path.{_≡_, ap}
+use mathlib.Core.Bool.{Bool, true, false, not}
 use mathlib.Core.List.{List, [], _∷_}
 use mathlib.Core.Logic.{⊎-elim}
 use Prim.Native.Nat.{ℕ, zero, suc, _+_, _<_, _≤_}
 use native.Mathlib.Omega.{arith}
 use lib.Dec.{eqb, ltb}
-use lib.ListN.{length, length-set, getD, set, take, replicate}
+use lib.ListN.{length, length-set, getD, set}
 use Rattle.std.proofs.shelf.Tests.{cases-lt, and-parts, ltb-true, lt-ltb, le-ltb, not-true, cond-true, cond-false, cases-bool, eqb-true}
 use Rattle.std.proofs.shelf.Lists.{getD-past, getD-replicate}
 use Rattle.pools.specs.Counts.{bit, tally, times}
@@ -16,7 +16,7 @@ use Rattle.pool_runs.specs.declared.moves.Move.{Move}
 use Rattle.pool_runs.specs.declared.moves.Move.the-variants.{Take, Give}
 use Rattle.pool_runs.specs.declared.moves.Answer.{Answer}
 use Rattle.pool_runs.specs.declared.moves.Answer.the-variants.{HandedOut, TakenBack, Refused}
-use Rattle.pool_runs.specs.Runs.{Right, after, without, holding, Answered, ends, outstanding}
+use Rattle.pool_runs.specs.Runs.{Right, after, without, holding, Answered}
 use Rattle.pool_runs.specs.Law.{EachOnce, Throughout}
 
 -- a list that has the number x is one without it, and x

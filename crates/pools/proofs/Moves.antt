@@ -1,21 +1,19 @@
 -- What a move makes of the numbers in and of their order, whatever the order: the same for every pool.
-use mathlib.Core.Path.{_≡_, refl, sym, ap, subst, _∙_}
-use mathlib.Core.Bool.{Bool, true, false, not, _&&_}
+use mathlib.Core.Path.{_≡_, sym, ap, subst, _∙_}
+use mathlib.Core.Bool.{Bool, true, false, not}
 use mathlib.Core.List.{List, [], _∷_, _++_}
 use mathlib.Core.Logic.{⊎-elim}
 use Prim.Native.Nat.{ℕ, _<_, _≤_}
 use native.Mathlib.Omega.{arith}
-use lib.Dec.{eqb, ltb}
+use lib.Dec.{ltb}
 use lib.ListN.{length, getD, set, take}
 use lib.Seq.{take-set-lt, getD-take, length-take-le}
 use Rattle.std.proofs.shelf.Lists.{set-getD, set-past}
 use Rattle.std.proofs.shelf.Tests.{cases-eq, eq-eqb, ne-eqb, lt-ltb, le-ltb, cond-true, cond-false, and-from, and-left, and-right, not-from-true, not-from-false}
-use Rattle.std.specs.declared.result.Result.{Result}
 use Rattle.std.specs.declared.result.Result.the-variants.{Ok, Err}
-use Rattle.pools.specs.declared.PoolFault.{PoolFault}
 use Rattle.pools.specs.declared.PoolFault.the-variants.{NoneIn, NotOut}
 use Rattle.pools.specs.Counts.{tally}
-use Rattle.pools.specs.Meaning.{taken, left, isOut, given, gained}
+use Rattle.pools.specs.Meaning.{taken, left, given, gained}
 use Rattle.pools.specs.Orders.{first, Listed}
 use Rattle.pools.proofs.Counts.{in-below, tally-lt}
 use Rattle.pools.proofs.Orders.{listed-in, listed-out, listed-front, listed-back}

@@ -1,8 +1,7 @@
 use mathlib.Core.Path.{_≡_}
 use Prim.Native.Nat.{_≤_}
-use lib.ListN.{length, drop}
+use lib.ListN.{drop}
 use Rattle.std.specs.Of.Vec.{vec-items, vec-len, vec-cap}
-use Rattle.pools.specs.Counts.{tally}
 use Rattle.pool_runs.proofs.Draws.{Drew, returned}
 use Rattle.pool_runs.proofs.circuit.circulate.Given as given
 

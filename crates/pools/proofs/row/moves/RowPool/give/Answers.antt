@@ -1,7 +1,7 @@
 use mathlib.Core.Path.{refl}
 use native.Mathlib.Omega.{arith}
 use Rattle.pools.specs.Rows.{order}
-use Rattle.pools.proofs.Moves.{Gave, gave, Refused, refused-past, refused-in}
+use Rattle.pools.proofs.Moves.{gave, Refused, refused-past, refused-in}
 use Rattle.pools.proofs.Rings.{length-ringed, ring-put}
 use Rattle.pools.proofs.row.moves.RowPool.give.Needs as need
 use Rattle.pools.proofs.row.moves.RowPool.give.Needs.{then-number-self·by·then-number-self, then-number-self·by·else-number-self·then-self-number}

@@ -1,8 +1,6 @@
-use mathlib.Core.Path.{_≡_, refl}
-use Prim.Native.Nat.{_+_, _<_}
 use native.Mathlib.Omega.{arith}
 use Rattle.pools.specs.Rows.{order}
-use Rattle.pools.proofs.Moves.{Took, took}
+use Rattle.pools.proofs.Moves.{took}
 use Rattle.pools.proofs.Rings.{ring-more}
 use Rattle.pools.proofs.row.moves.RowPool.take.Needs as need
 

@@ -1,7 +1,7 @@
 use mathlib.Core.Path.{refl}
 use native.Mathlib.Omega.{arith}
 use Rattle.pools.specs.Stacks.{order}
-use Rattle.pools.proofs.Moves.{Gave, gave, Refused, refused-past, refused-in}
+use Rattle.pools.proofs.Moves.{gave, Refused, refused-past, refused-in}
 use Rattle.pools.proofs.Stacks.{length-stacked, stack-put}
 use Rattle.pools.proofs.stack.moves.StackPool.give.Needs as need
 use Rattle.pools.proofs.stack.moves.StackPool.give.Needs.{then-number-self·by·then-number-self, then-number-self·by·else-number-self·then-self-number}

@@ -1,12 +1,9 @@
 use mathlib.Core.Path.{_≡_, refl}
-use Prim.Native.Nat.{_+_, _<_}
 use native.Mathlib.Omega.{arith}
-use lib.ListN.{getD}
 use Rattle.pools.specs.Counts.{tally}
 use Rattle.pools.specs.Stacks.{members, order}
-use Rattle.pools.specs.Orders.{first, stacked}
-use Rattle.pools.specs.declared.stack.Stack.{Stack}
-use Rattle.pools.proofs.Moves.{Took, took, taken-none, left-none}
+use Rattle.pools.specs.Orders.{first}
+use Rattle.pools.proofs.Moves.{took, taken-none, left-none}
 use Rattle.pools.proofs.Stacks.{length-stacked, stack-more}
 use Rattle.pools.proofs.stack.moves.StackPool.take.Needs as need
 
