@@ -1,7 +1,6 @@
 -- The hexadecimal digits of bytes.
 use mathlib.Core.Path.{_≡_, refl, sym, ap, _∙_}
-use mathlib.Core.Bool.{cond}
-use mathlib.Core.List.{List, [], _∷_, _++_, append-nil, append-assoc}
+use mathlib.Core.List.{List, [], _∷_, _++_}
 use Prim.Native.Nat.{ℕ, _+_, _/_, _%_, _<_, _≤_}
 use native.Mathlib.Omega.{arith}
 use lib.Utf8.{encode}
@@ -9,6 +8,9 @@ use lib.ListN.{length, getD, take}
 use Rattle.std.proofs.shelf.Ascii.{encode-ascii}
 use Rattle.std.proofs.shelf.Lists.{take-more, take-all}
 use Rattle.std.proofs.shelf.Ways.{tells}
+use Rattle.std.proofs.Writes.{put-is, put-more}
+use Rattle.std.specs.Written.{Put}
+use Rattle.std.specs.declared.fmt.Formatter.{Formatter}
 use Rattle.records.specs.Hexadecimal.{digit, byteDigits, bytesDigits}
 
 digit-ascii : (n : ℕ) → n < 16 → digit n < 128
@@ -29,9 +31,13 @@ digits-append [] y = refl
 digits-append (x ∷ xs) y = ap (λ cs. byteDigits x ++ cs) (digits-append xs y)
 
 -- one byte more
-pub digits-more : (xs : List ℕ) (i : ℕ) → i < length xs → bytesDigits (take i xs) ++ byteDigits (getD xs i 0) ≡ bytesDigits (take (i + 1) xs)
+digits-more : (xs : List ℕ) (i : ℕ) → i < length xs → bytesDigits (take i xs) ++ byteDigits (getD xs i 0) ≡ bytesDigits (take (i + 1) xs)
 digits-more xs i inside = sym (digits-append (take i xs) (getD xs i 0)) ∙ ap bytesDigits (sym (take-more xs i 0 inside))
 
--- all bytes
-pub digits-all : (xs : List ℕ) (i : ℕ) → length xs ≤ i → bytesDigits (take i xs) ≡ bytesDigits xs
-digits-all xs i past = ap bytesDigits (take-all i xs past)
+-- one byte more is written
+pub put-byte : {W : Type 0} (took : W → List ℕ → W → Type 0) (f g h : Formatter W) (xs : List ℕ) (i : ℕ) → i < length xs → Put took f (bytesDigits (take i xs)) g → Put took g (byteDigits (getD xs i 0)) h → Put took f (bytesDigits (take (i + 1) xs)) h
+put-byte took f g h xs i inside so-far byte = put-is took f _ _ h (digits-more xs i inside) (put-more took f _ g _ h so-far byte)
+
+-- all bytes are written
+pub put-all : {W : Type 0} (took : W → List ℕ → W → Type 0) (f g : Formatter W) (xs : List ℕ) (i : ℕ) → length xs ≤ i → Put took f (bytesDigits (take i xs)) g → Put took f (bytesDigits xs) g
+put-all took f g xs i past so-far = put-is took f _ _ g (ap bytesDigits (take-all i xs past)) so-far

@@ -1,12 +1,10 @@
 -- What an accepted layout says of its fields.
 use mathlib.Core.Path.{_≡_, refl}
 use mathlib.Core.Bool.{Bool, true, false, cond}
-use mathlib.Core.List.{List, [], _∷_}
 use Prim.Native.Nat.{ℕ}
 use native.Mathlib.Omega.{arith}
 use Rattle.std.specs.declared.result.Result.{Result}
 use Rattle.std.specs.declared.result.Result.the-variants.{Ok, Err}
-use Rattle.records.specs.Layout.{judged}
 use Rattle.records.specs.declared.refusals.RecordFault.{RecordFault}
 
 -- the first field is right, and the fields after it are accepted

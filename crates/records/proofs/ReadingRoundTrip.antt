@@ -2,7 +2,7 @@
 use mathlib.Core.Path.{_≡_, refl, sym, ap, subst, _∙_}
 use mathlib.Core.Bool.{Bool, true, false, cond, not}
 use mathlib.Core.List.{List, [], _∷_}
-use Prim.Native.Nat.{ℕ, zero, suc, _+_, _*_, _/_, _%_, _<_, _^_}
+use Prim.Native.Nat.{ℕ, zero, suc, _<_, _^_}
 use native.Mathlib.Omega.{arith}
 use lib.ListN.{getD}
 use lib.Dec.{ltb, eqb, T}
@@ -14,7 +14,7 @@ use Rattle.std.specs.declared.result.Result.the-variants.{Ok, Err}
 use Rattle.records.specs.Layout.{Octets, zeros, wordAt}
 use Rattle.records.specs.Readings.{allowed, meant, decodedReading, laidOut, encodedReading, keptReading}
 use Rattle.records.specs.declared.readings.Reading.{Reading}
-use Rattle.records.specs.declared.readings.Reading.the-variants.{Missing, Analogue, Counter, State}
+use Rattle.records.specs.declared.readings.Reading.the-variants.{Missing, Analogue}
 use Rattle.records.specs.declared.refusals.RecordFault.{RecordFault}
 use Rattle.records.specs.declared.refusals.RecordFault.the-variants.{WrongValue}
 use Rattle.records.proofs.EightBytes.{eight, word-first, word-second, word-third, word-fourth, word-below, word-of-bytes}

@@ -1,6 +1,6 @@
 // What a kind of record is.
 ghost use Rattle.std.specs.declared.result.Result.{Result};
-ghost use Rattle.std.specs.declared.result.Result.the-variants.{Ok, Err};
+ghost use Rattle.std.specs.declared.result.Result.the-variants.{Ok};
 ghost use lib.ListN.{replicate};
 ghost use denote.Ref.{now};
 ghost use mathlib.Core.List.{List};
@@ -30,13 +30,16 @@ pub trait Kind: Copy {
     // Eight zero bytes are the fresh record.
     law zeros: { decoded (replicate 8 0) ≡ Ok blank };
 
+    // The record in eight bytes; if a field is wrong, the first such field.
     fn decode(bytes: &[u8; 8]) -> Result<Self, RecordFault>
         ensures { λ r. ⌜ r ≡ decoded (now (bytes .entry)) ⌝ };
 
+    // The eight bytes, and what they are decoded to.
     fn encode(self) -> [u8; 8]
         ensures bytes { λ r. ⌜ r ≡ encoded self ⌝ }
         ensures returns { λ r. ⌜ decoded r ≡ Ok (kept self) ⌝ };
 
+    // The record that zeros are.
     fn fresh() -> Self
         ensures { λ r. ⌜ r ≡ blank ⌝ };
 }

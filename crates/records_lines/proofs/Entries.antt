@@ -10,7 +10,6 @@ use Rattle.std.specs.Options.{mapped}
 use Rattle.std.specs.declared.option.Option.{Option}
 use Rattle.std.specs.declared.option.Option.the-variants.{None}
 use Rattle.records_lines.specs.Lines.{eightBytes, entryOf}
-use Rattle.records_lines.specs.declared.lines.Entry.{Entry}
 use Rattle.records_lines.specs.declared.lines.Entry.the-variants.{Reading, Branch}
 
 module _ (line : List ℕ) (bytes : Option (List ℕ)) (blank : getD line 1 0 ≡ 32) (read : bytes ≡ eightBytes (take (length line - 2) (drop 2 line))) where

@@ -1,5 +1,5 @@
 use Prim.Native.Nat.{_+_, _*_, _<_, _≤_}
-use mathlib.Core.Path.{_≡_, refl, sym, _∙_}
+use mathlib.Core.Path.{refl, sym, _∙_}
 use native.Mathlib.Omega.{arith}
 use lib.ListN.{length, length-set}
 use Rattle.records_lines.proofs.Pairs.{after-none, pair-read, pair-refused, pairs-all, sixteen, not-sixteen}

@@ -1,10 +1,10 @@
 use Prim.Native.Nat.{_<_, _≤_}
-use mathlib.Core.Path.{_≡_, refl, ap}
+use mathlib.Core.Bool.{true}
+use mathlib.Core.Path.{refl}
 use native.Mathlib.Omega.{arith}
 use lib.ListN.{length}
-use Rattle.std.proofs.Writes.{put-is, put-more, wrote-none}
-use Rattle.std.specs.Results.{isOk}
-use Rattle.records.proofs.Digits.{digits-more, digits-all}
+use Rattle.std.proofs.Writes.{wrote-none}
+use Rattle.records.proofs.Digits.{put-byte, put-all}
 use Rattle.records.proofs.hex.HexDisplay.fmt.Needs as need
 
 pub loop-byte-holds : need.loop-byte-holds
@@ -13,11 +13,9 @@ loop-byte-holds g c plain = record { wrote = wrote-none (g .W·Write .took) _; p
 pub loop-byte-again : need.loop-byte-again
 loop-byte-again g c plain =
     let inside : c .loop-byte .byte-index < length (c .args .self .now .0) = omega arith in
-    let before = c .loop-byte .inv plain in
-    let byte = c .in-Continue-write .ensures tt .shows (before .plain) refl in
-    put-is (g .W·Write .took) _ _ _ _ (digits-more (c .args .self .now .0) (c .loop-byte .byte-index) inside) (put-more (g .W·Write .took) _ _ _ _ _ before byte)
+    put-byte (g .W·Write .took) (c .args .f .now) (c .loop-byte .f) (c .write .last .self) (c .args .self .now .0) (c .loop-byte .byte-index) inside (c .loop-byte .inv plain) (c .in-Continue-write .ensures tt .shows (c .loop-byte .inv plain .plain) (refl {a = true}))
 
 pub returns : need.returns
 returns g c plain ok =
     let past : length (c .args .self .now .0) ≤ c .loop-byte .byte-index = omega arith in
-    put-is (g .W·Write .took) _ _ _ _ (digits-all (c .args .self .now .0) (c .loop-byte .byte-index) past) (c .loop-byte .inv plain)
+    put-all (g .W·Write .took) (c .args .f .now) (c .loop-byte .f) (c .args .self .now .0) (c .loop-byte .byte-index) past (c .loop-byte .inv plain)
