@@ -13,11 +13,11 @@ pub use limits::Form;
 pub use limits::FormDebug;
 pub use limits::FormEq;
 pub use limits::FormPartialEq;
+pub use refusals::FaultOfFigures;
 pub use refusals::Refusal;
 pub use refusals::RefusalDebug;
 pub use refusals::RefusalDisplay;
 pub use refusals::RefusalEq;
-pub use refusals::RefusalFault;
 pub use refusals::RefusalPartialEq;
 
 #[cfg(test)]

@@ -18,7 +18,7 @@ pub enum Refusal {
     Misfit(Figure),
 }
 
-pub impl From<Refusal> for Fault as RefusalFault {
+pub impl From<Refusal> for Fault as FaultOfFigures {
     ghost converts = { λ refusal r. r ≡ fault refusal };
 
     fn from(refusal: Refusal) -> Fault {

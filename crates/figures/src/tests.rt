@@ -1,3 +1,4 @@
+use crate::FaultOfFigures;
 use crate::Figure;
 use crate::FigureDebug;
 use crate::FigurePartialEq;
@@ -6,7 +7,6 @@ use crate::Form;
 use crate::Refusal;
 use crate::RefusalDebug;
 use crate::RefusalDisplay;
-use crate::RefusalFault;
 use faults::Fault;
 use faults::FaultDisplay;
 use std::test::*;

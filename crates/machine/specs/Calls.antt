@@ -20,16 +20,19 @@ use Rattle.machine.specs.Looking.{with-shown}
 use Rattle.machine.specs.Moves.{Move, goes-on, ends, checked}
 use Rattle.machine.specs.Turns.{is-idle}
 
--- what is given exists
+-- there is a worker w
 abbrev pub is-worker : Core → ℕ → Bool
 is-worker k w = ltb w (k .form .workers)
 
+-- each worker has a hold h
 abbrev pub is-hold : Core → ℕ → Bool
 is-hold k h = ltb h (k .form .holds)
 
+-- there is a cell c
 abbrev pub is-cell : Core → ℕ → Bool
 is-cell k c = ltb c (cells k)
 
+-- there is a block b
 abbrev pub is-block : Core → ℕ → Bool
 is-block k b = ltb b (k .form .blocks)
 
@@ -85,7 +88,7 @@ retired-block x batch lead = record { standing = Retired; owner = None; birth = 
 abbrev pub unlinked : Core → ℕ → Core
 unlinked k b = named-less (named-less k (getD (block k b .links) 0 None)) (getD (block k b .links) 1 None)
 
--- the task after a retiring: a try where the batch's size is a multiple of the trying period
+-- a batch is tried where its size is a multiple of the trying period
 abbrev pub try-due : Core → Batch → Bool
 try-due k batch = eqb (batch .size % k .form .«trying_period») 0
 

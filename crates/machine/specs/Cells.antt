@@ -14,10 +14,11 @@ use Rattle.machine.specs.State.{block, with-block, with-anchor, one-more}
 abbrev pub cells : Core → ℕ
 cells k = 16 + 2 * k .form .blocks
 
--- the block that has a cell as its link, and which of its links that is
+-- the block that has a cell as its link
 abbrev pub home-block : ℕ → ℕ
 home-block c = (c - 16) / 2
 
+-- which of that block's links the cell is
 abbrev pub home-link : ℕ → ℕ
 home-link c = (c - 16) % 2
 

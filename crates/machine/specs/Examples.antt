@@ -44,13 +44,15 @@ hanging = taking ++ (Retire 0 1 ∷ replicate 3 (Turn 0))
 abbrev pub dropping : List (Call Reading)
 dropping = Drop 0 ∷ replicate 3 (Turn 0)
 
--- a line with no value and nothing given back: the call is finished, goes on, or is refused
+-- a line with no value and nothing given back
 abbrev pub plain : ℕ → Line Reading
 plain status = record { status = status; value = None; given = 0 }
 
+-- the call or task is finished
 abbrev pub done : Line Reading
 done = plain 0
 
+-- a task goes on
 abbrev pub on : Line Reading
 on = plain 1
 
@@ -70,16 +72,19 @@ pub record Example : Type 0 where
   pub calls : List (Call Reading)
   pub lines : List (Line Reading)
 
+-- over a pool that puts numbers back so, with the small form and a starting era
 abbrev pub example : (List ℕ → ℕ → List ℕ) → ℕ → List (Call Reading) → List (Call Reading) → List (Line Reading) → Example
 example puts era before calls lines = record { puts = puts; form = small era; before = before; calls = calls; lines = lines }
 
+-- over a stack, with a form of its own
 abbrev pub example-of : Form → List (Call Reading) → List (Call Reading) → List (Line Reading) → Example
 example-of form before calls lines = record { puts = on-stack; form = form; before = before; calls = calls; lines = lines }
 
--- worker w takes a block, or looks at anchor 0 for the first time
+-- worker w takes a block
 abbrev pub taking-by : ℕ → List (Call Reading)
 taking-by w = Take w ∷ replicate 2 (Turn w)
 
+-- worker w looks at anchor 0, with a list that is off
 abbrev pub looking-by : ℕ → List (Call Reading)
 looking-by w = Look w 0 0 ∷ replicate 7 (Turn w)
 
@@ -99,6 +104,7 @@ ready = taking-by 2 ++ (taking-by 2 ++ (taking-by 2 ++ (looking-by 0 ++ looking-
 abbrev pub printed : Example → List (Line Reading)
 printed e = map line (replies-beside (e .puts) (ends-beside (e .puts) (made (e .form)) (e .before)) (e .calls))
 
+-- the table
 abbrev pub examples : List Example
 examples =
     -- a take ends at its second turn with block 0; a turn without a task is refused

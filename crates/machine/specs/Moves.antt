@@ -8,7 +8,7 @@ use Rattle.std.specs.declared.option.Option.the-variants.{None}
 use Rattle.std.specs.declared.result.Result.{Result}
 use Rattle.std.specs.declared.result.Result.the-variants.{Ok, Err}
 use Rattle.pools.specs.Counts.{bit}
-use Rattle.pools.specs.Meaning.{isOut, gained}
+use Rattle.pools.specs.Meaning.{is-out, gained}
 use Rattle.machine.specs.declared.refusals.Refusal.{Refusal}
 use Rattle.machine.specs.declared.states.Core.{Core}
 
@@ -55,7 +55,7 @@ gained-all inside (b ∷ bs) = gained-all (gained inside b) bs
 -- by how many the pool gains
 abbrev pub gain : List Bool → List ℕ → ℕ
 gain inside [] = 0
-gain inside (b ∷ bs) = bit (isOut inside b) + gain (gained inside b) bs
+gain inside (b ∷ bs) = bit (is-out inside b) + gain (gained inside b) bs
 
 -- an answer with the number of blocks given back
 abbrev pub counted : Result (Bool × Option ℕ) Refusal → ℕ → Result (Bool × Option ℕ × ℕ) Refusal

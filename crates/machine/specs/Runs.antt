@@ -43,10 +43,11 @@ pub record Beside (R : Type 0) : Type 0 where
   pub state : State R
   pub order : List ℕ
 
--- a stack puts a number that is given back first, a row puts it last
+-- a stack puts a number that is given back first
 abbrev pub on-stack : List ℕ → ℕ → List ℕ
 on-stack order n = n ∷ order
 
+-- a row puts it last
 abbrev pub in-row : List ℕ → ℕ → List ℕ
 in-row order n = order ++ (n ∷ [])
 
@@ -63,11 +64,12 @@ reordered puts order inside given = given-to puts (cond (getD inside (first orde
 abbrev pub beside : {R : Type 0} → (List ℕ → ℕ → List ℕ) → Beside R → Step R → Beside R
 beside puts b step = record { state = step .to; order = reordered puts (b .order) (step .to .inside) (step .given) }
 
--- the end of calls over such a pool, and what they answer
+-- the end of calls over such a pool
 abbrev pub ends-beside : {R : Type 0} → (List ℕ → ℕ → List ℕ) → Beside R → List (Call R) → Beside R
 ends-beside puts b [] = b
 ends-beside puts b (c ∷ cs) = ends-beside puts (beside puts b (after (b .state) c (first (b .order)))) cs
 
+-- what they answer
 abbrev pub replies-beside : {R : Type 0} → (List ℕ → ℕ → List ℕ) → Beside R → List (Call R) → List (Reply R)
 replies-beside puts b [] = []
 replies-beside puts b (c ∷ cs) =

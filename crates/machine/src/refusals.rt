@@ -1,13 +1,20 @@
 // Why a keeper refuses.
 ghost use mathlib.Core.Path.{_≡_};
+ghost use Rattle.std.specs.declared.option.Option.the-variants.{Some};
+ghost use Rattle.faults.specs.Printed.{printed};
 ghost use Rattle.machine.specs.declared.refusals.Refusal.the-variants.{Dry};
 ghost use Rattle.machine.specs.Refusals.{fault};
 use faults::Fault;
+use faults::FaultDisplay;
 use faults::Layer;
 use pools::PoolFault;
+use pools::PoolFaultDebug;
+use pools::PoolFaultEq;
+use pools::PoolFaultPartialEq;
+use std::fmt;
 
 // Why a call or a task is refused.
-#[derive(Clone, Copy)]
+#[derive(Clone, Copy, PartialEq, Eq, Debug)]
 pub enum Refusal {
     // A figure, the pool or the record table's length is wrong.
     Misfit,
@@ -44,7 +51,7 @@ pub impl From<PoolFault> for Refusal as RefusalOfPool {
 }
 
 // A refusal and where it happened: the worker that was given, or 0 for the making.
-#[derive(Clone, Copy)]
+#[derive(Clone, Copy, PartialEq, Eq, Debug)]
 pub struct KeeperFault {
     pub refusal: Refusal,
     pub place: u16,
@@ -73,5 +80,14 @@ pub impl From<KeeperFault> for Fault as FaultOfKeeper {
             number,
             place: refused.place,
         }
+    }
+}
+
+pub impl fmt::Display for KeeperFault as KeeperFaultDisplay {
+    ghost shown = { λ refused. Some (printed (fault refused)) };
+
+    fn fmt<W: fmt::Write>(&self, f: &mut fmt::Formatter<W>) -> fmt::Result {
+        let reported = Fault::from(*self);
+        write!(f, "{reported}")
     }
 }

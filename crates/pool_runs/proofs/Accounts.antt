@@ -10,7 +10,7 @@ use lib.ListN.{length, length-set, getD, set}
 use Rattle.std.proofs.shelf.Tests.{cases-lt, and-parts, ltb-true, lt-ltb, le-ltb, not-true, cond-true, cond-false, cases-bool, eqb-true}
 use Rattle.std.proofs.shelf.Lists.{getD-past, getD-replicate}
 use Rattle.pools.specs.Counts.{bit, tally, times}
-use Rattle.pools.specs.Meaning.{isOut}
+use Rattle.pools.specs.Meaning.{is-out}
 use Rattle.pools.proofs.Counts.{bit-out, bit-in, tally-full}
 use Rattle.pool_runs.specs.declared.moves.Move.{Move}
 use Rattle.pool_runs.specs.declared.moves.Move.the-variants.{Take, Give}
@@ -45,7 +45,7 @@ once-out inside out x e h n =
     omega arith
 
 -- a number comes back
-once-back : (inside : List Bool) (out : List ℕ) (x : ℕ) → isOut inside x ≡ true → EachOnce inside out → EachOnce (set inside x true) (without x out)
+once-back : (inside : List Bool) (out : List ℕ) (x : ℕ) → is-out inside x ≡ true → EachOnce inside out → EachOnce (set inside x true) (without x out)
 once-back inside out x e h n =
     let parts = and-parts (ltb x (length inside)) (not (getD inside x false)) e in
     let low = ltb-true x (length inside) (parts .0) in

@@ -7,7 +7,7 @@ use lib.Dec.{eqb}
 use lib.ListN.{getD, set}
 use Rattle.pools.specs.declared.PoolFault.the-variants.{NoneIn, NotOut}
 use Rattle.pools.specs.Counts.{tally}
-use Rattle.pools.specs.Meaning.{isOut}
+use Rattle.pools.specs.Meaning.{is-out}
 use Rattle.pool_runs.specs.declared.moves.Move.{Move}
 use Rattle.pool_runs.specs.declared.moves.Move.the-variants.{Take, Give}
 use Rattle.pool_runs.specs.declared.moves.Answer.{Answer}
@@ -19,8 +19,8 @@ Right inside Take (HandedOut n) = getD inside n false ≡ true
 Right inside Take TakenBack = ⊥
 Right inside Take (Refused refusal) = (refusal ≡ NoneIn) × (tally inside ≡ 0)
 Right inside (Give n) (HandedOut m) = ⊥
-Right inside (Give n) TakenBack = isOut inside n ≡ true
-Right inside (Give n) (Refused refusal) = (refusal ≡ NotOut) × (isOut inside n ≡ false)
+Right inside (Give n) TakenBack = is-out inside n ≡ true
+Right inside (Give n) (Refused refusal) = (refusal ≡ NotOut) × (is-out inside n ≡ false)
 
 -- what is in after a move: a number handed out is out, one taken back is in, and no other moved
 abbrev pub after : List Bool → Move → Answer → List Bool

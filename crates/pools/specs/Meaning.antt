@@ -20,12 +20,12 @@ abbrev pub left : List Bool → ℕ → List Bool
 left inside next = cond (eqb (tally inside) 0) inside (set inside next false)
 
 -- whether a number is out: the pool has it, and it is not in
-abbrev pub isOut : List Bool → ℕ → Bool
-isOut inside n = ltb n (length inside) && not (getD inside n false)
+abbrev pub is-out : List Bool → ℕ → Bool
+is-out inside n = ltb n (length inside) && not (getD inside n false)
 
 -- what a give answers: refused exactly where the number is not out
 abbrev pub given : List Bool → ℕ → Result (Unit {0}) PoolFault
-given inside n = cond (isOut inside n) (Ok tt) (Err NotOut)
+given inside n = cond (is-out inside n) (Ok tt) (Err NotOut)
 
 -- what is in after a give: that number, if the pool has it, and no other moved
 abbrev pub gained : List Bool → ℕ → List Bool

@@ -6,13 +6,13 @@ use lib.ListN.{getD}
 use lib.Dec.{eqb}
 use Rattle.std.proofs.shelf.Tests.{eqb-true, and-parts}
 use Rattle.std.specs.declared.result.Result.the-variants.{Ok}
-use Rattle.records.specs.Layout.{Octets, zeros, pairAt}
-use Rattle.records.specs.Branches.{decodedBranch, encodedBranch}
+use Rattle.records.specs.Layout.{Octets, zeros, pair-at}
+use Rattle.records.specs.Branches.{decoded-branch, encoded-branch}
 use Rattle.records.specs.declared.branches.Branch.{Branch}
 use Rattle.records.proofs.EightBytes.{eight, pair-low, pair-high}
 use Rattle.records.proofs.Judging.{first-right, same-found}
 
-pub branch-restores : (bs : List ℕ) (x : Branch) → Octets bs → decodedBranch bs ≡ Ok x → encodedBranch x ≡ bs
+pub branch-restores : (bs : List ℕ) (x : Branch) → Octets bs → decoded-branch bs ≡ Ok x → encoded-branch x ≡ bs
 branch-restores bs x octets accepted =
     let right = first-right (zeros bs 3 5) _ _ x accepted in
     let same = same-found _ x (right .1) in
@@ -29,5 +29,5 @@ branch-restores bs x octets accepted =
     let low = pair-low (getD bs 0 0) (getD bs 1 0) (octets .1 0) (octets .1 1) in
     let high = pair-high (getD bs 0 0) (getD bs 1 0) (octets .1 0) (octets .1 1) in
     let whole = eight bs (octets .0) in
-    let laid : encodedBranch (record { unit = pairAt bs 0; channels = getD bs 2 0 }) ≡ getD bs 0 0 ∷ getD bs 1 0 ∷ getD bs 2 0 ∷ getD bs 3 0 ∷ getD bs 4 0 ∷ getD bs 5 0 ∷ getD bs 6 0 ∷ getD bs 7 0 ∷ [] = cc in
-    ap encodedBranch (sym same) ∙ laid ∙ sym whole
+    let laid : encoded-branch (record { unit = pair-at bs 0; channels = getD bs 2 0 }) ≡ getD bs 0 0 ∷ getD bs 1 0 ∷ getD bs 2 0 ∷ getD bs 3 0 ∷ getD bs 4 0 ∷ getD bs 5 0 ∷ getD bs 6 0 ∷ getD bs 7 0 ∷ [] = cc in
+    ap encoded-branch (sym same) ∙ laid ∙ sym whole

@@ -9,10 +9,10 @@ abbrev pub digit : ℕ → ℕ
 digit number = cond (ltb number 10) (48 + number) (87 + number)
 
 -- a byte's two digits, the high one first
-abbrev pub byteDigits : ℕ → List ℕ
-byteDigits byte = digit (byte / 16) ∷ digit (byte % 16) ∷ []
+abbrev pub byte-digits : ℕ → List ℕ
+byte-digits byte = digit (byte / 16) ∷ digit (byte % 16) ∷ []
 
 -- the digits of several bytes, one byte after another
-abbrev pub bytesDigits : List ℕ → List ℕ
-bytesDigits [] = []
-bytesDigits (byte ∷ bytes) = byteDigits byte ++ bytesDigits bytes
+abbrev pub bytes-digits : List ℕ → List ℕ
+bytes-digits [] = []
+bytes-digits (byte ∷ bytes) = byte-digits byte ++ bytes-digits bytes

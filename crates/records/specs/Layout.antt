@@ -19,12 +19,12 @@ zeros bytes from zero = true
 zeros bytes from (suc count) = eqb (getD bytes from 0) 0 && zeros bytes (from + 1) count
 
 -- the number in the two bytes from a place on, low byte first
-abbrev pub pairAt : List ℕ → ℕ → ℕ
-pairAt bytes from = getD bytes from 0 + getD bytes (from + 1) 0 * 256
+abbrev pub pair-at : List ℕ → ℕ → ℕ
+pair-at bytes from = getD bytes from 0 + getD bytes (from + 1) 0 * 256
 
 -- the number in the four bytes from a place on, low byte first
-abbrev pub wordAt : List ℕ → ℕ → ℕ
-wordAt bytes from = getD bytes from 0 + getD bytes (from + 1) 0 * 256 + getD bytes (from + 2) 0 * 65536 + getD bytes (from + 3) 0 * 16777216
+abbrev pub word-at : List ℕ → ℕ → ℕ
+word-at bytes from = getD bytes from 0 + getD bytes (from + 1) 0 * 256 + getD bytes (from + 2) 0 * 65536 + getD bytes (from + 3) 0 * 16777216
 
 -- of a layout's fields in order, each with whether it is right and the fault of a wrong one: the first fault, or else the record
 abbrev pub judged : {R : Type 0} → List (Bool × RecordFault) → R → Result R RecordFault

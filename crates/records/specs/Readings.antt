@@ -6,7 +6,7 @@ use lib.ListN.{getD}
 use lib.Dec.{ltb, eqb}
 use lib.Ieee.{binary32, ofBits, toBits, isNan}
 use Rattle.std.specs.declared.result.Result.{Result}
-use Rattle.records.specs.Layout.{zeros, wordAt, judged}
+use Rattle.records.specs.Layout.{zeros, word-at, judged}
 use Rattle.records.specs.declared.readings.Reading.{Reading}
 use Rattle.records.specs.declared.readings.Reading.the-variants.{Missing, Analogue, Counter, State}
 use Rattle.records.specs.declared.refusals.RecordFault.{RecordFault}
@@ -29,26 +29,26 @@ meant sort value =
     (State (eqb value 1))))
 
 -- what eight bytes are as a reading
-abbrev pub decodedReading : List ℕ → Result Reading RecordFault
-decodedReading bytes =
+abbrev pub decoded-reading : List ℕ → Result Reading RecordFault
+decoded-reading bytes =
     let sort = getD bytes 0 0 in
-    let value = wordAt bytes 4 in
+    let value = word-at bytes 4 in
     judged ((ltb sort 4, UnknownSort) ∷ (zeros bytes 1 3, GapNotZero) ∷ (allowed sort value, WrongValue) ∷ []) (meant sort value)
 
 -- a sort, three zeros and a value, low byte first
-abbrev pub laidOut : ℕ → ℕ → List ℕ
-laidOut sort value = sort ∷ 0 ∷ 0 ∷ 0 ∷ (value % 256) ∷ (value / 256 % 256) ∷ (value / 65536 % 256) ∷ (value / 16777216 % 256) ∷ []
+abbrev pub laid-out : ℕ → ℕ → List ℕ
+laid-out sort value = sort ∷ 0 ∷ 0 ∷ 0 ∷ (value % 256) ∷ (value / 256 % 256) ∷ (value / 65536 % 256) ∷ (value / 16777216 % 256) ∷ []
 
 -- the eight bytes of a reading; an analogue that is not a number is laid out as missing
-abbrev pub encodedReading : Reading → List ℕ
-encodedReading Missing = laidOut 0 0
-encodedReading (Analogue x) = cond (isNan x) (laidOut 0 0) (laidOut 1 (toBits binary32 x))
-encodedReading (Counter count) = laidOut 2 count
-encodedReading (State on) = laidOut 3 (cond on 1 0)
+abbrev pub encoded-reading : Reading → List ℕ
+encoded-reading Missing = laid-out 0 0
+encoded-reading (Analogue x) = cond (isNan x) (laid-out 0 0) (laid-out 1 (toBits binary32 x))
+encoded-reading (Counter count) = laid-out 2 count
+encoded-reading (State on) = laid-out 3 (cond on 1 0)
 
 -- what a reading comes back as: an analogue that is not a number as missing, any other as it was
-abbrev pub keptReading : Reading → Reading
-keptReading Missing = Missing
-keptReading (Analogue x) = cond (isNan x) Missing (Analogue x)
-keptReading (Counter count) = Counter count
-keptReading (State on) = State on
+abbrev pub kept-reading : Reading → Reading
+kept-reading Missing = Missing
+kept-reading (Analogue x) = cond (isNan x) Missing (Analogue x)
+kept-reading (Counter count) = Counter count
+kept-reading (State on) = State on

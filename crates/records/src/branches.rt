@@ -1,5 +1,5 @@
 // Kind 2: a branch.
-ghost use Rattle.records.specs.Branches.{decodedBranch, encodedBranch};
+ghost use Rattle.records.specs.Branches.{decoded-branch, encoded-branch};
 use crate::kinds::Kind;
 use crate::refusals::RecordFault;
 
@@ -11,9 +11,9 @@ pub struct Branch {
 }
 
 pub impl Kind for Branch as BranchKind {
-    ghost decoded = { decodedBranch };
+    ghost decoded = { decoded-branch };
 
-    ghost encoded = { encodedBranch };
+    ghost encoded = { encoded-branch };
 
     ghost kept = { λ branch. branch };
 

@@ -2,7 +2,7 @@
 ghost use Rattle.std.specs.declared.option.Option.the-variants.{Some};
 ghost use mathlib.Core.Path.{_≡_};
 ghost use Prim.Native.Nat.{_<_};
-ghost use Rattle.records.specs.Hexadecimal.{digit, byteDigits, bytesDigits};
+ghost use Rattle.records.specs.Hexadecimal.{digit, byte-digits, bytes-digits};
 use std::fmt;
 
 // A byte, shown as two lower-case hexadecimal digits, the high one first.
@@ -10,7 +10,7 @@ use std::fmt;
 pub struct HexByte(pub u8);
 
 pub impl fmt::Display for HexByte as HexByteDisplay {
-    ghost shown = { λ byte. Some (byteDigits (byte .0)) };
+    ghost shown = { λ byte. Some (byte-digits (byte .0)) };
 
     fn fmt<W: fmt::Write>(&self, f: &mut fmt::Formatter<W>) -> fmt::Result {
         let high = hex_digit(self.0 / 16);
@@ -24,7 +24,7 @@ pub impl fmt::Display for HexByte as HexByteDisplay {
 pub struct Hex(pub [u8; 8]);
 
 pub impl fmt::Display for Hex as HexDisplay {
-    ghost shown = { λ bytes. Some (bytesDigits (bytes .0)) };
+    ghost shown = { λ bytes. Some (bytes-digits (bytes .0)) };
 
     fn fmt<W: fmt::Write>(&self, f: &mut fmt::Formatter<W>) -> fmt::Result {
         for byte in &self.0 {

@@ -27,7 +27,7 @@ pub use readings::Reading;
 pub use readings::ReadingDebug;
 pub use readings::ReadingKind;
 pub use readings::ReadingPartialEq;
-pub use refusals::FaultFromRecord;
+pub use refusals::FaultOfRecord;
 pub use refusals::RecordFault;
 pub use refusals::RecordFaultDebug;
 pub use refusals::RecordFaultDisplay;

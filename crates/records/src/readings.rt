@@ -5,7 +5,7 @@ ghost use mathlib.Core.Bool.{cond};
 ghost use mathlib.Core.Path.{_≡_};
 ghost use Rattle.records.specs.declared.readings.Reading.the-variants.{Missing, Analogue};
 ghost use Rattle.records.specs.declared.refusals.RecordFault.the-variants.{WrongValue};
-ghost use Rattle.records.specs.Readings.{decodedReading, encodedReading, keptReading, laidOut};
+ghost use Rattle.records.specs.Readings.{decoded-reading, encoded-reading, kept-reading, laid-out};
 use crate::kinds::Kind;
 use crate::refusals::RecordFault;
 use std::num::f32_from_bits_with_nan;
@@ -24,11 +24,11 @@ pub enum Reading {
 }
 
 pub impl Kind for Reading as ReadingKind {
-    ghost decoded = { decodedReading };
+    ghost decoded = { decoded-reading };
 
-    ghost encoded = { encodedReading };
+    ghost encoded = { encoded-reading };
 
-    ghost kept = { keptReading };
+    ghost kept = { kept-reading };
 
     ghost blank = { Missing };
 
@@ -78,8 +78,8 @@ fn analogue(bits: u32) -> Result<Reading, RecordFault>
 
 // A measured value in its place; one that is not a number is laid out as missing.
 fn laid_analogue(value: f32) -> [u8; 8]
-    ensures bytes { λ r. ⌜ r ≡ encodedReading (Analogue value) ⌝ }
-    ensures returns { λ r. ⌜ decodedReading r ≡ Ok (keptReading (Analogue value)) ⌝ }
+    ensures bytes { λ r. ⌜ r ≡ encoded-reading (Analogue value) ⌝ }
+    ensures returns { λ r. ⌜ decoded-reading r ≡ Ok (kept-reading (Analogue value)) ⌝ }
 {
     if value.is_nan() {
         return laid(0, 0);
@@ -89,7 +89,7 @@ fn laid_analogue(value: f32) -> [u8; 8]
 
 // A sort and a value in their places.
 fn laid(sort: u8, value: u32) -> [u8; 8]
-    ensures { λ r. ⌜ r ≡ laidOut sort value ⌝ }
+    ensures { λ r. ⌜ r ≡ laid-out sort value ⌝ }
 {
     let [v0, v1, v2, v3] = value.to_le_bytes();
     [sort, 0, 0, 0, v0, v1, v2, v3]

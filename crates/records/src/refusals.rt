@@ -35,7 +35,7 @@ impl RecordFault {
     }
 }
 
-pub impl From<RecordFault> for Fault as FaultFromRecord {
+pub impl From<RecordFault> for Fault as FaultOfRecord {
     ghost converts = { λ refusal r. r ≡ fault refusal };
 
     fn from(refusal: RecordFault) -> Fault {

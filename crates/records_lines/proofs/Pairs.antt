@@ -11,7 +11,7 @@ use Rattle.std.proofs.shelf.Tests.{cond-true, cond-false, eq-eqb, ne-eqb}
 use Rattle.std.specs.Options.{mapped}
 use Rattle.std.specs.declared.option.Option.{Option}
 use Rattle.std.specs.declared.option.Option.the-variants.{Some, None}
-use Rattle.records_lines.specs.Lines.{byteOf, before, bytesOf, eightBytes}
+use Rattle.records_lines.specs.Lines.{byte-of, before, bytes-of, eight-bytes}
 
 -- bytes after those so far
 abbrev pub after : List ℕ → Option (List ℕ) → Option (List ℕ)
@@ -34,33 +34,33 @@ pair-left digits i inside =
     let f : suc (suc i) ≡ i + 2 = omega arith in
     drop-cons digits i 0 first ∙ ap (λ xs. getD digits i 0 ∷ xs) (drop-cons digits (suc i) 0 next ∙ ap (λ j. getD digits j 0 ∷ drop (suc (suc i)) digits) e ∙ ap (λ j. getD digits (i + 1) 0 ∷ drop j digits) f)
 
-module _ (digits bytes : List ℕ) (k : ℕ) (pair : 2 * k + 1 < length digits) (so-far : bytesOf digits ≡ after (take k bytes) (bytesOf (drop (2 * k) digits))) where
+module _ (digits bytes : List ℕ) (k : ℕ) (pair : 2 * k + 1 < length digits) (so-far : bytes-of digits ≡ after (take k bytes) (bytes-of (drop (2 * k) digits))) where
   -- by the pair that comes next
-  next-pair : (byte : Option ℕ) → byte ≡ byteOf (getD digits (2 * k) 0) (getD digits (2 * k + 1) 0) → bytesOf digits ≡ after (take k bytes) (before byte (bytesOf (drop (2 * k + 2) digits)))
-  unfolding bytesOf
-  next-pair byte e = so-far ∙ ap (λ xs. after (take k bytes) (bytesOf xs)) (pair-left digits (2 * k) pair) ∙ ap (λ b. after (take k bytes) (before b (bytesOf (drop (2 * k + 2) digits)))) (sym e)
+  next-pair : (byte : Option ℕ) → byte ≡ byte-of (getD digits (2 * k) 0) (getD digits (2 * k + 1) 0) → bytes-of digits ≡ after (take k bytes) (before byte (bytes-of (drop (2 * k + 2) digits)))
+  unfolding bytes-of
+  next-pair byte e = so-far ∙ ap (λ xs. after (take k bytes) (bytes-of xs)) (pair-left digits (2 * k) pair) ∙ ap (λ b. after (take k bytes) (before b (bytes-of (drop (2 * k + 2) digits)))) (sym e)
 
   -- the pair writes a byte
-  pub pair-read : (byte : ℕ) → k < length bytes → Some byte ≡ byteOf (getD digits (2 * k) 0) (getD digits (2 * k + 1) 0) → bytesOf digits ≡ after (take (k + 1) (set bytes k byte)) (bytesOf (drop (2 * (k + 1)) digits))
+  pub pair-read : (byte : ℕ) → k < length bytes → Some byte ≡ byte-of (getD digits (2 * k) 0) (getD digits (2 * k + 1) 0) → bytes-of digits ≡ after (take (k + 1) (set bytes k byte)) (bytes-of (drop (2 * (k + 1)) digits))
   pair-read byte room e =
       let past : 2 * k + 2 ≡ 2 * (k + 1) = omega arith in
-      next-pair (Some byte) e ∙ after-one (take k bytes) byte _ ∙ ap (λ xs. after xs (bytesOf (drop (2 * k + 2) digits))) (sym (take-more-set bytes k byte room)) ∙ ap (λ j. after (take (k + 1) (set bytes k byte)) (bytesOf (drop j digits))) past
+      next-pair (Some byte) e ∙ after-one (take k bytes) byte _ ∙ ap (λ xs. after xs (bytes-of (drop (2 * k + 2) digits))) (sym (take-more-set bytes k byte room)) ∙ ap (λ j. after (take (k + 1) (set bytes k byte)) (bytes-of (drop j digits))) past
 
   -- the pair writes none
-  pub pair-refused : None ≡ byteOf (getD digits (2 * k) 0) (getD digits (2 * k + 1) 0) → bytesOf digits ≡ None
+  pub pair-refused : None ≡ byte-of (getD digits (2 * k) 0) (getD digits (2 * k + 1) 0) → bytes-of digits ≡ None
   pair-refused e = next-pair None e
 
 -- no digit is left
-pub pairs-all : (digits bytes : List ℕ) (k : ℕ) → length bytes ≤ k → length digits ≤ 2 * k → bytesOf digits ≡ after (take k bytes) (bytesOf (drop (2 * k) digits)) → bytesOf digits ≡ Some bytes
-unfolding bytesOf
+pub pairs-all : (digits bytes : List ℕ) (k : ℕ) → length bytes ≤ k → length digits ≤ 2 * k → bytes-of digits ≡ after (take k bytes) (bytes-of (drop (2 * k) digits)) → bytes-of digits ≡ Some bytes
+unfolding bytes-of
 pairs-all digits bytes k full done so-far =
-    so-far ∙ ap (λ xs. after (take k bytes) (bytesOf xs)) (drop-all (2 * k) digits done) ∙ ap Some (append-nil (take k bytes) ∙ take-all k bytes full)
+    so-far ∙ ap (λ xs. after (take k bytes) (bytes-of xs)) (drop-all (2 * k) digits done) ∙ ap Some (append-nil (take k bytes) ∙ take-all k bytes full)
 
 -- sixteen digits write what they write, and any other number of them writes nothing
-pub sixteen : (digits : List ℕ) → length digits ≡ 16 → eightBytes digits ≡ bytesOf digits
-unfolding eightBytes
-sixteen digits e = cond-true (eqb (length digits) 16) (bytesOf digits) None (eq-eqb (length digits) 16 e)
+pub sixteen : (digits : List ℕ) → length digits ≡ 16 → eight-bytes digits ≡ bytes-of digits
+unfolding eight-bytes
+sixteen digits e = cond-true (eqb (length digits) 16) (bytes-of digits) None (eq-eqb (length digits) 16 e)
 
-pub not-sixteen : (digits : List ℕ) → (length digits ≡ 16 → ⊥) → eightBytes digits ≡ None
-unfolding eightBytes
-not-sixteen digits e = cond-false (eqb (length digits) 16) (bytesOf digits) None (ne-eqb (length digits) 16 e)
+pub not-sixteen : (digits : List ℕ) → (length digits ≡ 16 → ⊥) → eight-bytes digits ≡ None
+unfolding eight-bytes
+not-sixteen digits e = cond-false (eqb (length digits) 16) (bytes-of digits) None (ne-eqb (length digits) 16 e)

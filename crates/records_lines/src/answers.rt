@@ -1,7 +1,7 @@
 // What is printed for a line.
 ghost use Rattle.std.specs.declared.option.Option.the-variants.{Some};
 ghost use mathlib.Core.Path.{_≡_};
-ghost use Rattle.records_lines.specs.Answers.{answerTo, printedAnswer};
+ghost use Rattle.records_lines.specs.Answers.{answer-to, printed-answer};
 use crate::lines::Entry;
 use crate::lines::parse;
 use records::Branch;
@@ -28,7 +28,7 @@ pub enum Answer {
 
 // The answer to the line with a number.
 pub fn reply(number: u64, line: &[u8]) -> Answer
-    ensures { λ r. ⌜ r ≡ answerTo number (now (line .entry)) ⌝ }
+    ensures { λ r. ⌜ r ≡ answer-to number (now (line .entry)) ⌝ }
 {
     let outcome = match parse(line) {
         Some(Entry::Reading(bytes)) => recoded::<Reading>(&bytes),
@@ -42,7 +42,7 @@ pub fn reply(number: u64, line: &[u8]) -> Answer
 }
 
 pub impl fmt::Display for Answer as AnswerDisplay {
-    ghost shown = { λ given. Some (printedAnswer given) };
+    ghost shown = { λ given. Some (printed-answer given) };
 
     fn fmt<W: fmt::Write>(&self, f: &mut fmt::Formatter<W>) -> fmt::Result {
         match *self {

@@ -6,7 +6,7 @@ use Rattle.std.specs.Options.{valueOr}
 use Rattle.std.specs.Results.{okPart}
 use Rattle.std.specs.declared.option.Option.{Option}
 use Rattle.figures.specs.declared.limits.Form.{Form}
-use Rattle.records.specs.Readings.{decodedReading}
+use Rattle.records.specs.Readings.{decoded-reading}
 use Rattle.records.specs.declared.readings.Reading.{Reading}
 use Rattle.records.specs.declared.readings.Reading.the-variants.{Missing}
 use Rattle.machine.specs.declared.calls.Call.{Call}
@@ -18,15 +18,17 @@ use Rattle.machine.specs.Runs.{Line, line, on-stack, in-row, replies-beside}
 abbrev pub Puts : Type 0
 Puts = List ℕ → ℕ → List ℕ
 
+-- a stack's pool
 abbrev pub stack : Puts
 stack = on-stack
 
+-- a row's pool
 abbrev pub row : Puts
 row = in-row
 
 -- the reading in eight bytes
 abbrev pub reading : List ℕ → Reading
-reading bytes = valueOr (okPart (decodedReading bytes)) Missing
+reading bytes = valueOr (okPart (decoded-reading bytes)) Missing
 
 -- a line: its status, its value, and the blocks given back
 abbrev pub prints : ℕ → Option (Value Reading) → ℕ → Line Reading

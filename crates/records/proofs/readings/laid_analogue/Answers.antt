@@ -1,5 +1,5 @@
 use mathlib.Core.Path.{sym, ap, _∙_}
-use Rattle.records.specs.Readings.{decodedReading}
+use Rattle.records.specs.Readings.{decoded-reading}
 use Rattle.records.proofs.ReadingRoundTrip.{number-laid, number-returns}
 use Rattle.records.proofs.readings.laid_analogue.Needs as need
 
@@ -8,5 +8,5 @@ returns c =
     let number = sym (c .if-is-nan .ensures tt .value) in
     record {
       bytes = c .laid-2 .ensures ∙ sym (number-laid (c .args .value) number);
-      returns = ap decodedReading (c .laid-2 .ensures) ∙ number-returns (c .args .value) (c .good .0 .1) number;
+      returns = ap decoded-reading (c .laid-2 .ensures) ∙ number-returns (c .args .value) (c .good .0 .1) number;
     }
