@@ -6,6 +6,7 @@ use lib.Dec.{ltb, eqb}
 use lib.ListN.{length, getD, set, replicate}
 use Rattle.std.specs.declared.option.Option.{Option}
 use Rattle.std.specs.declared.option.Option.the-variants.{None, Some}
+use Rattle.machine.specs.declared.refusals.Refusal.{Refusal}
 use Rattle.machine.specs.declared.refusals.Refusal.the-variants.{Misfit, Stranger, Busy, OutOfHand, Withdrawn, Linked, SelfLink, Moved}
 use Rattle.machine.specs.declared.states.Standing.the-variants.{Retired}
 use Rattle.machine.specs.declared.states.Batch.{Batch}
@@ -45,24 +46,30 @@ or-none test (Some b) = test b
 abbrev pub free : Core → ℕ → Bool
 free k w = is-idle (worker k w .task)
 
+-- the checks of a take and of a drop
+abbrev pub free-checks : Core → ℕ → List (Bool × Refusal)
+free-checks k w = (is-worker k w, Stranger) ∷ (free k w, Busy) ∷ []
+
 -- take
 abbrev pub take : Core → ℕ → Move
-take k w = checked k ((is-worker k w, Stranger) ∷ (free k w, Busy) ∷ []) (goes-on (with-task k w TakeEra))
+take k w = checked k (free-checks k w) (goes-on (with-task k w TakeEra))
 
--- look: a link is looked at only from a block that the worker owns or another of its holds shows
-abbrev pub look : Core → ℕ → ℕ → ℕ → Move
-look k w h c =
-    checked k
-    ((is-worker k w && is-hold k h && is-cell k c, Stranger)
+-- the checks of a look: a link is looked at only from a block that the worker owns or another of its holds shows
+abbrev pub look-checks : Core → ℕ → ℕ → ℕ → List (Bool × Refusal)
+look-checks k w h c =
+    (is-worker k w && is-hold k h && is-cell k c, Stranger)
     ∷ (free k w, Busy)
     ∷ (or-none (in-hand-without k w h) (home c), OutOfHand)
-    ∷ [])
-    (goes-on (with-shown k w h None (LookCell h c)))
+    ∷ []
+
+-- look
+abbrev pub look : Core → ℕ → ℕ → ℕ → Move
+look k w h c = checked k (look-checks k w h c) (goes-on (with-shown k w h None (LookCell h c)))
 
 -- drop: all holds of the worker show nothing
 abbrev pub drop : Core → ℕ → Move
 drop k w =
-    checked k ((is-worker k w, Stranger) ∷ (free k w, Busy) ∷ [])
+    checked k (free-checks k w)
     (goes-on (with-worker k w (record { takings = worker k w .takings; task = DropList 0; batch = worker k w .batch; shows = replicate 4 None })))
 
 -- a worker's own batch after block b, born at era e, has joined it: the first to join is the lead
@@ -107,22 +114,28 @@ retiring k w b batch =
     (goes-on (with-batch (retired k w b batch) w batch (TryVisit 0 b 0)))
     (ends (with-batch (retired k w b batch) w batch Idle) None)
 
--- retire
-abbrev pub retire : Core → ℕ → ℕ → Move
-retire k w b =
-    checked k
-    ((is-worker k w && is-block k b, Stranger)
+-- the checks of a retire
+abbrev pub retire-checks : Core → ℕ → ℕ → List (Bool × Refusal)
+retire-checks k w b =
+    (is-worker k w && is-block k b, Stranger)
     ∷ (free k w, Busy)
     ∷ (in-hand k w b, OutOfHand)
     ∷ (live-block k b, Withdrawn)
     ∷ (eqb (block k b .names) 0, Linked)
-    ∷ [])
-    (retiring k w b (joined (worker k w .batch) b (block k b .birth)))
+    ∷ []
+
+-- retire
+abbrev pub retire : Core → ℕ → ℕ → Move
+retire k w b = checked k (retire-checks k w b) (retiring k w b (joined (worker k w .batch) b (block k b .birth)))
+
+-- a block without an owner
+abbrev pub unowned : Block → Block
+unowned x = record { standing = x .standing; owner = None; birth = x .birth; links = x .links; names = x .names; under = x .under; slot = x .slot; elder = x .elder; lead = x .lead; count = x .count; newest = x .newest }
 
 -- a block that worker w owned has no owner any more
 abbrev pub disowned : Core → ℕ → Option ℕ → Core
 disowned k w None = k
-disowned k w (Some b) = cond (owns k w b) (with-block k b (let x = block k b in record { standing = x .standing; owner = None; birth = x .birth; links = x .links; names = x .names; under = x .under; slot = x .slot; elder = x .elder; lead = x .lead; count = x .count; newest = x .newest })) k
+disowned k w (Some b) = cond (owns k w b) (with-block k b (unowned (block k b))) k
 
 -- the cell holds the new block or none
 abbrev pub relinked : Core → ℕ → ℕ → Option ℕ → Core
@@ -133,15 +146,17 @@ abbrev pub own-cell : ℕ → Option ℕ → Bool
 own-cell c None = false
 own-cell c (Some b) = same-content (home c) (Some b)
 
--- relink
-abbrev pub relink : Core → ℕ → ℕ → Option ℕ → Option ℕ → Move
-relink k w c expected new =
-    checked k
-    ((is-worker k w && is-cell k c && or-none (is-block k) expected && or-none (is-block k) new, Stranger)
+-- the checks of a relink
+abbrev pub relink-checks : Core → ℕ → ℕ → Option ℕ → Option ℕ → List (Bool × Refusal)
+relink-checks k w c expected new =
+    (is-worker k w && is-cell k c && or-none (is-block k) expected && or-none (is-block k) new, Stranger)
     ∷ (free k w, Busy)
     ∷ (or-none (in-hand k w) (home c) && or-none (in-hand k w) new, OutOfHand)
     ∷ (or-none (live-block k) (home c) && or-none (live-block k) new, Withdrawn)
     ∷ (not (own-cell c new), SelfLink)
     ∷ (same-content (held k c) expected, Moved)
-    ∷ [])
-    (ends (relinked k w c new) None)
+    ∷ []
+
+-- relink
+abbrev pub relink : Core → ℕ → ℕ → Option ℕ → Option ℕ → Move
+relink k w c expected new = checked k (relink-checks k w c expected new) (ends (relinked k w c new) None)

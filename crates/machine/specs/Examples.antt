@@ -13,8 +13,8 @@ use Rattle.records.specs.declared.readings.Reading.the-variants.{Missing}
 use Rattle.machine.specs.declared.calls.Call.{Call}
 use Rattle.machine.specs.declared.calls.Call.the-variants.{Take, Look, Drop, Retire, Relink, Turn}
 use Rattle.machine.specs.declared.calls.Value.the-variants.{Block}
-use Rattle.machine.specs.State.{fresh, block}
-use Rattle.machine.specs.Runs.{Beside, Line, line, on-stack, in-row, ends-beside, replies-beside}
+use Rattle.machine.specs.State.{block}
+use Rattle.machine.specs.Runs.{start, Beside, Line, line, on-stack, in-row, ends-beside, replies-beside}
 
 -- one worker with one hold, every period 1, two blocks that may both be live, and a starting era
 abbrev pub small : ℕ → Form
@@ -22,7 +22,7 @@ small era = record { workers = 1; holds = 1; blocks = 2; live = 2; «taking_peri
 
 -- a keeper of readings as it is made, beside a pool that hands out 0, 1, 2 and so on
 abbrev pub made : Form → Beside Reading
-made form = record { state = record { core = fresh form; inside = replicate (form .blocks) true; table = replicate (form .blocks) Missing }; order = counting 0 (form .blocks) }
+made form = record { state = start form (replicate (form .blocks) true) (replicate (form .blocks) Missing); order = counting 0 (form .blocks) }
 
 -- a take with its two turns
 abbrev pub taking : List (Call Reading)

@@ -13,3 +13,4 @@ pub mod Calls
 pub mod Machine
 pub mod Runs
 pub mod Examples
+pub mod Eras

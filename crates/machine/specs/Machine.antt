@@ -85,33 +85,48 @@ abbrev pub judged : {R : Type 0} → State R → ℕ → List (Bool × Refusal) 
 judged s w [] done = done
 judged s w (c ∷ cs) done = cond (c .0) (judged s w cs done) (answered s (s .table) (Err (record { refusal = c .1; place = w })))
 
--- write: that record alone is replaced
-abbrev pub write : {R : Type 0} → State R → ℕ → ℕ → R → Step R
-write s w b x =
-    judged s w
-    ((is-worker (s .core) w && is-block (s .core) b, Stranger)
+-- the checks of a write
+abbrev pub write-checks : {R : Type 0} → State R → ℕ → ℕ → List (Bool × Refusal)
+write-checks s w b =
+    (is-worker (s .core) w && is-block (s .core) b, Stranger)
     ∷ (free (s .core) w, Busy)
     ∷ (eqb (length (s .table)) (s .core .form .blocks), Misfit)
     ∷ (owns (s .core) w b, OutOfHand)
-    ∷ [])
-    (answered s (set (s .table) b x) (finished None))
+    ∷ []
+
+-- that record alone is replaced
+abbrev pub written : {R : Type 0} → State R → ℕ → R → Step R
+written s b x = answered s (set (s .table) b x) (finished None)
+
+-- write
+abbrev pub write : {R : Type 0} → State R → ℕ → ℕ → R → Step R
+write s w b x = judged s w (write-checks s w b) (written s b x)
 
 -- the record of a block that is shown, if one is
 abbrev pub record-of : {R : Type 0} → List R → Option ℕ → Option R
 record-of table None = None
 record-of table (Some b) = nth table b
 
--- read: it answers the record of the shown block
-abbrev pub read : {R : Type 0} → State R → ℕ → ℕ → Step R
-read s w h =
-    let found = record-of (s .table) (shown (s .core) w h) in
-    judged s w
-    ((is-worker (s .core) w && is-hold (s .core) h, Stranger)
+-- the record of the block that worker w's hold h shows
+abbrev pub shown-record : {R : Type 0} → State R → ℕ → ℕ → Option R
+shown-record s w h = record-of (s .table) (shown (s .core) w h)
+
+-- the checks of a read
+abbrev pub read-checks : {R : Type 0} → State R → ℕ → ℕ → List (Bool × Refusal)
+read-checks s w h =
+    (is-worker (s .core) w && is-hold (s .core) h, Stranger)
     ∷ (free (s .core) w, Busy)
     ∷ (eqb (length (s .table)) (s .core .form .blocks), Misfit)
-    ∷ (isSome found, OutOfHand)
-    ∷ [])
-    (answered s (s .table) (finished (mapped Record found)))
+    ∷ (isSome (shown-record s w h), OutOfHand)
+    ∷ []
+
+-- that record is the value
+abbrev pub found : {R : Type 0} → State R → ℕ → ℕ → Step R
+found s w h = answered s (s .table) (finished (mapped Record (shown-record s w h)))
+
+-- read
+abbrev pub read : {R : Type 0} → State R → ℕ → ℕ → Step R
+read s w h = judged s w (read-checks s w h) (found s w h)
 
 -- what a call leads to, where n is the number that the pool hands out next
 abbrev pub after : {R : Type 0} → State R → Call R → ℕ → Step R

@@ -7,12 +7,18 @@ use lib.ListN.{length, getD, take, drop}
 use Rattle.std.specs.declared.option.Option.{Option}
 use Rattle.std.specs.declared.option.Option.the-variants.{None}
 use Rattle.std.specs.declared.result.Result.the-variants.{Ok, Err}
+use Rattle.figures.specs.declared.limits.Form.{Form}
 use Rattle.pools.specs.Counts.{tally}
 use Rattle.pools.specs.Orders.{first}
 use Rattle.machine.specs.declared.calls.Call.{Call}
 use Rattle.machine.specs.declared.calls.Value.{Value}
 use Rattle.machine.specs.Refusals.{number}
+use Rattle.machine.specs.State.{fresh}
 use Rattle.machine.specs.Machine.{State, Reply, Step, after}
+
+-- a keeper as it is made, over a pool with these numbers in, with a table
+abbrev pub start : {R : Type 0} → Form → List Bool → List R → State R
+start form inside table = record { core = fresh form; inside = inside; table = table }
 
 -- the state after calls, where the pool hands out these numbers; every call is done, also where numbers are missing
 abbrev pub ends : {R : Type 0} → State R → List (Call R) → List ℕ → State R

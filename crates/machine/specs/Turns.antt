@@ -3,6 +3,7 @@ use mathlib.Core.Bool.{Bool, true, false, not}
 use mathlib.Core.List.{List, [], _∷_}
 use Prim.Native.Nat.{ℕ}
 use lib.Dec.{ltb}
+use Rattle.machine.specs.declared.refusals.Refusal.{Refusal}
 use Rattle.machine.specs.declared.refusals.Refusal.the-variants.{Stranger, Idle as NoTask}
 use Rattle.machine.specs.declared.states.Task.{Task}
 use Rattle.machine.specs.declared.states.Task.the-variants.{Idle, TakeEra, TakeBlock, LookCell, LookEra, LookList, LookWalk, LookAgain, LookWrite, DropList, DropWalk, DropEra, TryVisit, TryHang, TryLast}
@@ -50,6 +51,10 @@ step k inside n w (TryVisit r b aside) = try-visit k w r b aside (worker k w .ba
 step k inside n w (TryHang b left hung) = try-hang k w b left hung (worker k w .batch)
 step k inside n w (TryLast hung) = try-last k w hung (worker k w .batch)
 
--- a turn is refused to a worker that there is not, or that has no task
+-- the check of a turn; that the worker has a task is seen in its step
+abbrev pub turn-checks : Core → ℕ → List (Bool × Refusal)
+turn-checks k w = (ltb w (k .form .workers), Stranger) ∷ []
+
+-- turn
 abbrev pub turn : Core → List Bool → ℕ → ℕ → Move
-turn k inside n w = checked k ((ltb w (k .form .workers), Stranger) ∷ []) (step k inside n w (worker k w .task))
+turn k inside n w = checked k (turn-checks k w) (step k inside n w (worker k w .task))

@@ -2,6 +2,7 @@
 // over them in specs/.
 mod calls;
 mod examples;
+mod laws;
 mod refusals;
 mod states;
 
@@ -9,6 +10,7 @@ pub use calls::Answer;
 pub use calls::Call;
 pub use calls::Value;
 pub use examples::worked_examples;
+pub use laws::eras_stay_in_order;
 pub use refusals::FaultOfKeeper;
 pub use refusals::KeeperFault;
 pub use refusals::KeeperFaultDebug;
