@@ -36,13 +36,13 @@ fresh-in-order form fit = record {
 }
 
 -- a write or a read leaves the keeper as it was
-judged-same : {R : Type 0} (s : State R) (w : ℕ) (cs : List (Bool × Refusal)) (done : Step R) → done .to .core ≡ s .core → judged s w cs done .to .core ≡ s .core
+pub judged-same : {R : Type 0} (s : State R) (w : ℕ) (cs : List (Bool × Refusal)) (done : Step R) → done .to .core ≡ s .core → judged s w cs done .to .core ≡ s .core
 judged-same s w [] done e = e
 judged-same s w (c ∷ cs) done e = by-test (λ (x : Step _). x .to .core ≡ s .core) (c .0) _ _ (λ _. judged-same s w cs done e) (λ _. refl)
 
 module _ {R : Type 0} (form : Form) (since : ℕ) (fit : Fit form) where
   -- a call keeps eras in order
-  after-kept : (s : State R) (c : Call R) (n : ℕ) → In-order form since (s .core) → In-order form since (after s c n .to .core)
+  pub after-kept : (s : State R) (c : Call R) (n : ℕ) → In-order form since (s .core) → In-order form since (after s c n .to .core)
   after-kept s (Take w) n o = take-kept form since (s .core) o w
   after-kept s (Look w h c) n o = look-kept form since (s .core) o w h c
   after-kept s (Drop w) n o = drop-kept form since (s .core) o w (fit .1 .0)

@@ -1,19 +1,25 @@
 -- The worked examples: one table of calls and the lines that they print, and what the keeper is then.
 use mathlib.Core.Path.{_≡_}
-use mathlib.Core.Bool.{true}
+use mathlib.Core.Bool.{true, false}
 use mathlib.Core.List.{List, [], _∷_, _++_, map}
 use Prim.Native.Nat.{ℕ}
 use lib.ListN.{replicate}
 use Rattle.std.specs.Iters.{counting}
 use Rattle.std.specs.declared.option.Option.{Option}
 use Rattle.std.specs.declared.option.Option.the-variants.{None, Some}
+use Rattle.std.specs.declared.result.Result.{Result}
+use Rattle.std.specs.declared.result.Result.the-variants.{Ok, Err}
 use Rattle.figures.specs.declared.limits.Form.{Form}
 use Rattle.records.specs.declared.readings.Reading.{Reading}
 use Rattle.records.specs.declared.readings.Reading.the-variants.{Missing}
 use Rattle.machine.specs.declared.calls.Call.{Call}
 use Rattle.machine.specs.declared.calls.Call.the-variants.{Take, Look, Drop, Retire, Relink, Turn}
 use Rattle.machine.specs.declared.calls.Value.the-variants.{Block}
-use Rattle.machine.specs.State.{block}
+use Rattle.machine.specs.State.{fresh, block}
+use Rattle.machine.specs.declared.refusals.KeeperFault.{KeeperFault}
+use Rattle.machine.specs.declared.refusals.Refusal.the-variants.{Misfit}
+use Rattle.machine.specs.declared.states.Core.{Core}
+use Rattle.machine.specs.Machine.{make}
 use Rattle.machine.specs.Runs.{start, Beside, Line, line, on-stack, in-row, ends-beside, replies-beside}
 
 -- one worker with one hold, every period 1, two blocks that may both be live, and a starting era
@@ -158,3 +164,19 @@ Then =
     × (block (end-of taking .state .core) 0 .birth ≡ 2)
     × (end-of (taking ++ (looking ++ (cutting ++ taking))) .state .core .era ≡ 3)
     × (block (end-of (taking ++ (looking ++ (cutting ++ hanging))) .state .core) 0 .count ≡ 1)
+
+-- as small, with so many workers
+abbrev pub with-workers : ℕ → Form
+with-workers w = record { workers = w; holds = 1; blocks = 2; live = 2; «taking_period» = 1; «trying_period» = 1; «starting_era» = 1 }
+
+-- what a misfit at the making is refused with
+abbrev pub no-keeper : Result Core KeeperFault
+no-keeper = Err (record { refusal = Misfit; place = 0 })
+
+-- eight workers are made and nine are a misfit, and so is a pool of another size or with a number out
+abbrev pub Makings : Type 0
+Makings =
+    (make (with-workers 8) (true ∷ true ∷ []) ≡ Ok (fresh (with-workers 8)))
+    × (make (with-workers 9) (true ∷ true ∷ []) ≡ no-keeper)
+    × (make (small 1) (true ∷ true ∷ true ∷ []) ≡ no-keeper)
+    × (make (small 1) (true ∷ false ∷ []) ≡ no-keeper)

@@ -14,3 +14,9 @@ pub mod Machine
 pub mod Runs
 pub mod Examples
 pub mod Eras
+pub mod Batches
+pub mod Linking
+pub mod Living
+pub mod Account
+pub mod Structure
+pub mod Batch-sizes
