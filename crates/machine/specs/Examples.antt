@@ -102,6 +102,10 @@ paired = record { workers = 1; holds = 1; blocks = 3; live = 3; «taking_period�
 abbrev pub trio : Form
 trio = record { workers = 3; holds = 1; blocks = 4; live = 4; «taking_period» = 1; «trying_period» = 3; «starting_era» = 1 }
 
+-- two workers, whose batches are tried at every second retiring
+abbrev pub duo : Form
+duo = record { workers = 2; holds = 1; blocks = 4; live = 4; «taking_period» = 1; «trying_period» = 2; «starting_era» = 1 }
+
 -- worker 2 has three blocks, and the other two have reservations
 abbrev pub ready : List (Call Reading)
 ready = taking-by 2 ++ (taking-by 2 ++ (taking-by 2 ++ (looking-by 0 ++ looking-by 1)))
@@ -147,6 +151,10 @@ examples =
     ∷ example-of trio ready
     (Retire 2 0 ∷ Retire 2 1 ∷ Retire 2 2 ∷ replicate 4 (Turn 2) ++ (Drop 0 ∷ replicate 3 (Turn 0) ++ (replicate 2 (Turn 2) ++ (Drop 1 ∷ replicate 3 (Turn 1)))))
     (done ∷ done ∷ on ∷ on ∷ on ∷ on ∷ on ∷ on ∷ on ∷ on ∷ done ∷ on ∷ done ∷ on ∷ on ∷ with-given 1 3 ∷ done ∷ [])
+    -- nothing is hung on a list that was turned off since its visit, so the last turn gives both blocks back
+    ∷ example-of duo (taking-by 0 ++ (taking-by 0 ++ looking-by 1))
+    (Retire 0 0 ∷ Retire 0 1 ∷ replicate 2 (Turn 0) ++ (Drop 1 ∷ replicate 2 (Turn 1) ++ replicate 2 (Turn 0)))
+    (done ∷ on ∷ on ∷ on ∷ on ∷ on ∷ done ∷ on ∷ with-given 0 2 ∷ [])
     ∷ []
 
 -- the examples print the lines that stand with them
