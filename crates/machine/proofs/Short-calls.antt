@@ -43,7 +43,7 @@ use Rattle.machine.proofs.Owners.{owns-own, alone, own-lead}
 use Rattle.machine.proofs.Steps-sound.{Good, few-workers, few-places, few-blocks}
 use Rattle.machine.proofs.Doings.{unlinked-workers}
 use Rattle.machine.proofs.Batch-counts.{rows-same, rows-set, rows-none, not-batched, of-other, own-as, moved, retasked}
-use Rattle.machine.proofs.Short-turns.{turn-short}
+use Rattle.machine.proofs.Short-turns.{retired-is, turn-short}
 
 -- a worker without a task does not try
 idle-tries : (t : Task) → is-idle t ≡ true → tries t ≡ false
@@ -67,11 +67,6 @@ live-is : (s : Standing) → is-live s ≡ true → s ≡ Live
 live-is Pooled e = let f : _≡_ {A = ℕ} 0 1 = cc in absurd (omega arith)
 live-is Live e = refl
 live-is Retired e = let f : _≡_ {A = ℕ} 0 1 = cc in absurd (omega arith)
-
-retired-is : (s : Standing) → is-retired s ≡ true → s ≡ Retired
-retired-is Pooled e = let f : _≡_ {A = ℕ} 0 1 = cc in absurd (omega arith)
-retired-is Live e = let f : _≡_ {A = ℕ} 0 1 = cc in absurd (omega arith)
-retired-is Retired e = refl
 
 -- names of blocks and their owners do not matter
 named-less-same : (k : Core) (o : Option ℕ) (l : ℕ) → batch-count (named-less k o) l ≡ batch-count k l

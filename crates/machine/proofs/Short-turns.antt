@@ -63,7 +63,7 @@ pooled-not Pooled e = refl
 pooled-not Live e = refl
 pooled-not Retired e = let f : _≡_ {A = ℕ} 0 1 = cc in absurd (omega arith)
 
-retired-is : (s : Standing) → is-retired s ≡ true → s ≡ Retired
+pub retired-is : (s : Standing) → is-retired s ≡ true → s ≡ Retired
 retired-is Pooled e = let f : _≡_ {A = ℕ} 0 1 = cc in absurd (omega arith)
 retired-is Live e = let f : _≡_ {A = ℕ} 0 1 = cc in absurd (omega arith)
 retired-is Retired e = refl
