@@ -1,4 +1,6 @@
 // Plays the runs that texts write, and prints for each its name and a line for each call.
+#![tactic(auto)]
+
 mod calls;
 mod lines;
 mod playing;

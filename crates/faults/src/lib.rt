@@ -2,6 +2,8 @@
 //
 // A layer has an enum of its own refusals, one definition in its specs/ that sets out each one's number, and a
 // `From` into `Fault`. To add a layer, add its name to `Layer`.
+#![tactic(auto)]
+
 ghost use Rattle.std.specs.Prelude.{Some};
 ghost use Rattle.faults.specs.Printed.{word, printed};
 

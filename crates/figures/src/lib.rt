@@ -1,4 +1,6 @@
 // The figures of one keeper, their limits, and how many blocks they ask for.
+#![tactic(auto)]
+
 mod checked;
 mod limits;
 mod refusals;

@@ -1,4 +1,6 @@
 // The keeper over any pool: every call does what the machine's definitions say.
+#![tactic(auto)]
+
 mod answers;
 mod calls;
 mod cells;

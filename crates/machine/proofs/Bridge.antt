@@ -3,7 +3,7 @@
 use Rattle.std.proofs.Common.{◌≡◌, ℕ, zero, suc, ◌+◌, ◌-◌, ◌<◌, ◌≤◌, Bool, true, false, cond, eqb, ltb, List, [], ◌∷◌, length, get_or, set, Some, None, Ok, Option, sym, refl, ap, ◌∙◌, subst, arith, length-set}
 use mathlib.Core.Path.{fun_ext}
 use native.Mathlib.Decide.{ℕ_discrete}
-use lib.ListN.{length_replicate}
+use lib.ListN.{length-replicate}
 use Rattle.std.proofs.lemmas.List.{get_or-set_same, get_or-set_other}
 use Rattle.figures.specs.declared.limits.Form.{Form}
 use Rattle.pools.specs.Meaning.{gained}
@@ -38,7 +38,7 @@ pub record Sized (k : Core) : Type 0 where
   pub anchors : length k.anchors ≡ 16
 
 pub sized_fresh : (form : Form) → Sized (fresh form)
-sized_fresh form = record { rows = length_replicate 2048 fresh_block; workers = length_replicate 8 fresh_worker; reservations = length_replicate 32 fresh_reservation; anchors = length_replicate {A = Option ℕ} 16 None }
+sized_fresh form = record { rows = length-replicate 2048 fresh_block; workers = length-replicate 8 fresh_worker; reservations = length-replicate 32 fresh_reservation; anchors = length-replicate {A = Option ℕ} 16 None }
 
 pub sized_era : (k : Core) (e : ℕ) → Sized k → Sized (with_era k e)
 sized_era k e s = record { rows = s.rows; workers = s.workers; reservations = s.reservations; anchors = s.anchors }

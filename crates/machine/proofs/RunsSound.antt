@@ -3,7 +3,7 @@ use Rattle.std.proofs.Common.{◌≡◌, ℕ, zero, suc, ◌+◌, ◌*◌, ◌<�
 use native.Mathlib.Decide.{ℕ_discrete, dec_lt}
 use Rattle.std.proofs.lemmas.List.{get_or-replicate}
 use Rattle.std.proofs.lemmas.Bool.Decides.{nat_tests}
-use lib.ListN.{length_replicate}
+use lib.ListN.{length-replicate}
 use Rattle.std.specs.List.{AllByRecursion as All}
 use Rattle.figures.specs.Limits.{Fit}
 use Rattle.figures.specs.declared.limits.Form.{Form}
@@ -287,7 +287,7 @@ module _ {R : Type 0} (form : Form) (fit : Fit form) where
       (replicate_all (λ x. x.batch ≡ None) blank_worker fresh_worker 8 refl refl) in
       record {
         order = record { same_form = o.same_form; later = omega arith; not_past = o.not_past; births = o.births; reserved = o.reserved; takings = o.takings; tasks = o.tasks };
-        good = (sized_fresh form, length_replicate form.blocks true, _, f.0, f.1);
+        good = (sized_fresh form, length-replicate form.blocks true, _, f.0, f.1);
         linked = fresh_linked form;
         agrees = opened_agrees form;
         few = fresh_living form;

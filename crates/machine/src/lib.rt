@@ -1,5 +1,7 @@
 // The machine: what the keeper does at every call and every step, as types that its code uses and as definitions
 // over them in specs/.
+#![tactic(auto)]
+
 mod calls;
 mod examples;
 mod laws;

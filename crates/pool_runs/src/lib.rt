@@ -1,4 +1,6 @@
 // What holds of every pool over whole runs of takes and gives, whichever number it hands out next.
+#![tactic(auto)]
+
 mod circuit;
 mod moves;
 mod plays;

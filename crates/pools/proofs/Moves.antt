@@ -1,6 +1,6 @@
 -- What a move makes of the numbers in and of their order, whatever the order: the same for every pool.
 use Rattle.std.proofs.Common.{◌≡◌, ℕ, ◌<◌, ◌≤◌, Bool, true, false, not, ltb, List, [], ◌∷◌, ◌++◌, length, get_or, take, set, Ok, Err, sym, ap, ◌∙◌, subst, ⊎_elim, arith, length-take-le, get_or-take}
-use lib.Seq.{take_set_lt}
+use lib.Seq.{take-set-lt}
 use Rattle.std.proofs.lemmas.List.{set-get_or, set_past}
 use Rattle.std.proofs.lemmas.Bool.{cases_eq, eq-eqb, ne_eqb, lt-ltb, le-ltb, cond-true, cond-false, and_from, and_left, and_right, not_from_true, not_from_false}
 use Rattle.pools.specs.declared.PoolFault.TheVariants.{NoneIn, NotOut}
@@ -46,7 +46,7 @@ module _ (size : ℕ) (ins : List Bool) where
       let short = length-take-le size ins long in
       let low : x < size = let l = in_below (take size ins) x here in omega arith in
       let some : 0 < tally (take size ins) = let many = h'.0 in omega arith in
-      let moved = take_set_lt size ins x false low in
+      let moved = take-set-lt size ins x false low in
       let head : first order ≡ x = ap first e in
       record {
         low = low;
@@ -92,7 +92,7 @@ module _ (size : ℕ) (ins : List Bool) where
       let out = get_or-take size ins x false low ∙ e in
       let short = length-take-le size ins long in
       let low' : x < length (take size ins) = omega arith in
-      let moved = take_set_lt size ins x true low in
+      let moved = take-set-lt size ins x true low in
       let placed : (ns ms : List ℕ) → ns ≡ ms → Listed ms (set (take size ins) x true) → Listed ns (take size (set ins x true)) =
       λ ns ms same l. subst (λ bs. Listed ns bs) (sym moved) (subst (λ ks. Listed ks (set (take size ins) x true)) (sym same) l) in
       record {

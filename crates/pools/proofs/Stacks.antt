@@ -1,6 +1,6 @@
 -- What stands in an array from a top up to a size.
 use Rattle.std.proofs.Common.{◌≡◌, ℕ, ◌+◌, ◌-◌, ◌<◌, ◌≤◌, List, ◌∷◌, length, get_or, take, drop, set, ap, ◌∙◌, arith, length-drop, length-take-le, get_or-take}
-use lib.Seq.{take_set_lt}
+use lib.Seq.{take-set-lt}
 use Rattle.std.proofs.lemmas.List.{drop_more, drop-set, ext_get_or}
 use Rattle.std.specs.List.{range_with_len}
 use Rattle.std.proofs.lemmas.List.FromFn.{length-range_with_len, get_or-range_with_len}
@@ -21,7 +21,7 @@ pub stack_put : (size top : ℕ) (spots : List ℕ) (x : ℕ) → size ≤ lengt
 stack_put size top spots x l p t =
     let long = length-take-le size spots l in
     let back : (top - 1) + 1 ≡ top = omega arith in
-    ap (drop (top - 1)) (take_set_lt size spots (top - 1) x (omega arith))
+    ap (drop (top - 1)) (take-set-lt size spots (top - 1) x (omega arith))
     ∙ drop-set (take size spots) (top - 1) x (omega arith)
     ∙ ap (λ n. x ∷ drop n (take size spots)) back
 

@@ -1,4 +1,6 @@
 // Pools of numbers: what a pool is, whatever number it hands out next, and two pools, a stack and a row.
+#![tactic(auto)]
+
 mod fresh;
 mod row;
 mod stack;

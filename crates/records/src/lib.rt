@@ -3,6 +3,8 @@
 // `Kind` says what decoding and encoding mean and that encoding restores what was decoded; `Reading` is kind 1,
 // `Branch` kind 2. To add a kind, add its wrong fields to `RecordFault` and to specs/Refusals.antt, write its layout
 // as a file of specs/, and implement `Kind`.
+#![tactic(auto)]
+
 mod branches;
 mod hex;
 mod kinds;

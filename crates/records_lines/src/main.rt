@@ -1,5 +1,7 @@
 // Decodes lines of a record kind and eight bytes in hexadecimal digits, and prints for each the bytes encoded again
 // or why it is refused.
+#![tactic(auto)]
+
 mod answers;
 mod lines;
 

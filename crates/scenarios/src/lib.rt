@@ -1,4 +1,6 @@
 // The machine held against an independent model: eight runs of nine hundred calls each, careless ones among them.
+#![tactic(auto)]
+
 ghost use Rattle.scenarios.specs.Lines.{Agrees};
 ghost use Rattle.scenarios.specs.Scenario1.{scenario as scenario-1};
 ghost use Rattle.scenarios.specs.Scenario2.{scenario as scenario-2};

@@ -1,4 +1,6 @@
 // The commissioning line: how many blocks a box must have for its figures.
+#![tactic(auto)]
+
 mod arguments;
 mod complaints;
 mod lines;

@@ -17,7 +17,7 @@ loop-answer-preserved g c =
     let many : c.len.result ≡ 0 + length (take i answers) = omega arith in (
       omega arith,
       omega arith,
-      c.push-reserved.ensures.items ∙ ap (λ ls. ls ++ c.of-line.result ∷ []) l.invariant.2
+      c.push_reserved.ensures.items ∙ ap (λ ls. ls ++ c.of-line.result ∷ []) l.invariant.2
           ∙ ap (λ y. lines_from encoded 0 (take i answers) ++ y ∷ []) (c.of-line.ensures ∙ ap (λ m. line_of encoded m x) many)
           ∙ sym (lines_more encoded 0 (take i answers) x) ∙ ap (lines_from encoded 0) (sym more),
     )

@@ -35,11 +35,11 @@ loop-handled-preserved g c =
     let e : m ≡ n + 1 = omega arith in
     let k = l.core in
     let inside = g.P.Pool.inside l.pool in
-    let then = g.P.Pool.inside c.give-one-given.new.pool in
-    let put = c.give-one-given.ensures.pool in
+    let then = g.P.Pool.inside c.give_one-given.new.pool in
+    let put = c.give_one-given.ensures.pool in
     let here = ap (members m k) (sym c.in-Some.is) in
     let low = bit_low (is_out inside b) in
-    let one = c.give-one-given.ensures.number in (
+    let one = c.give_one-given.ensures.number in (
       omega arith,
       omega arith,
       (block_ranges (block k b) (i.3 b)).3,

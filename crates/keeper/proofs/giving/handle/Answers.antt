@@ -7,8 +7,8 @@ use Rattle.keeper.proofs.Ranges.{block_ranges}
 use Rattle.keeper.proofs.GivenBack.{handled_comes}
 use Rattle.keeper.proofs.giving.handle.Goals as goal
 
-pub give-due-given-requires : goal.give-due-given-requires
-give-due-given-requires g c =
+pub give_due-given-requires : goal.give_due-given-requires
+give_due-given-requires g c =
     let k = c.args.core.now in
     let b = c.args.block in
     let fits = c.requires.1.1 in
@@ -19,5 +19,5 @@ pub returns : goal.returns
 returns g c =
     let k = c.args.core.now in
     let pool = c.args.pool.now in
-    let gave = c.give-due-given.ensures in
-    handled_comes k c.args.worker c.args.block c.args.on (g.P.Pool.inside pool) (g.P.Pool.next pool) _ _ _ _ c.saturating-sub.ensures gave.core gave.pool gave.number
+    let gave = c.give_due-given.ensures in
+    handled_comes k c.args.worker c.args.block c.args.on (g.P.Pool.inside pool) (g.P.Pool.next pool) _ _ _ _ c.saturating_sub.ensures gave.core gave.pool gave.number

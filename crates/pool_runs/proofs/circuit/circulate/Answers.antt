@@ -8,11 +8,11 @@ use Rattle.pool_runs.proofs.circuit.circulate.Goals.{in-Ok, in-default}
 
 pub loop-init : goal.loop-init
 loop-init g c =
-    let v = c.in-ok-numbers.ensures in
+    let v = c.in_ok-numbers.ensures in
     (v.len, v.capacity, drew_none _ _ v.items)
 
-pub push-reserved-requires : goal.push-reserved-requires
-push-reserved-requires g c = omega arith
+pub push_reserved-requires : goal.push_reserved-requires
+push_reserved-requires g c = omega arith
 
 pub loop-preserved : goal.loop-preserved
 loop-preserved g c =
@@ -21,11 +21,11 @@ loop-preserved g c =
     let next = g.P.Pool.next l.pool in
     elim c.match-take.branch [
       | in-Ok w ↦ (
-        omega (arith, ap vec_len w.numbers-is, w.push-reserved.ensures.len),
-        omega (arith, ap vec_capacity w.numbers-is, w.push-reserved.ensures.capacity),
+        omega (arith, ap vec_len w.numbers-is, w.push_reserved.ensures.len),
+        omega (arith, ap vec_capacity w.numbers-is, w.push_reserved.ensures.capacity),
         drew_more _ now _ (vec_items l.numbers) _ w.in-Ok.number next l.invariant.2
             w.in-Ok.ensures.answer c.take.ensures.leaves (g.met.P.Pool.chosen l.pool)
-            (ap vec_items w.numbers-is ∙ w.push-reserved.ensures.items),
+            (ap vec_items w.numbers-is ∙ w.push_reserved.ensures.items),
       )
       | in-default w ↦
           let many = l.invariant.2.many in

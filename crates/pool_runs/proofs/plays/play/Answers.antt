@@ -7,7 +7,7 @@ use Rattle.pool_runs.proofs.plays.play.Goals as goal
 
 pub loop-turn-init : goal.loop-turn-init
 loop-turn-init g c =
-    let v = c.in-ok-answers.ensures in
+    let v = c.in_ok-answers.ensures in
     (v.len, v.capacity, going_none _ _ v.items)
 
 pub loop-turn-preserved : goal.loop-turn-preserved
@@ -19,7 +19,7 @@ loop-turn-preserved g c =
       omega arith,
       omega arith,
       going_more _ (take i moves) _ (vec_items l.answers) _ (get_or moves i Take) c.step-answer.result (g.P.Pool.inside l.pool) _
-          l.invariant.2 (take_more moves i Take low) c.push-reserved.ensures.items c.step-answer.ensures.right c.step-answer.ensures.leaves,
+          l.invariant.2 (take_more moves i Take low) c.push_reserved.ensures.items c.step-answer.ensures.right c.step-answer.ensures.leaves,
     )
 
 pub returns : goal.returns

@@ -13,13 +13,13 @@ loop-k-preserved c =
     let digits = c.args.digits.now in
     let pair : 2 * c.loop-k.k + 1 < length digits = omega arith in
     let room : c.loop-k.k < length c.loop-k.bytes = omega arith in
-    (simp length-set c.loop-k.invariant.0, pair_read digits c.loop-k.bytes c.loop-k.k pair c.loop-k.invariant.1 c.in-ok-bytes.field-0 room c.in-ok-bytes.ensures)
+    (simp length-set c.loop-k.invariant.0, pair_read digits c.loop-k.bytes c.loop-k.k pair c.loop-k.invariant.1 c.in_ok-bytes.field-0 room c.in_ok-bytes.ensures)
 
-pub returns-in-err-bytes : goal.returns-in-err-bytes
-returns-in-err-bytes c =
+pub returns-in_err-bytes : goal.returns-in_err-bytes
+returns-in_err-bytes c =
     let digits = c.args.digits.now in
     let pair : 2 * c.loop-k.k + 1 < length digits = omega arith in
-    c.from-residual.ensures ∙ sym (sixteen digits c.if-digits-ne16.false ∙ pair_refused digits c.loop-k.bytes c.loop-k.k pair c.loop-k.invariant.1 c.in-err-bytes.ensures)
+    c.from_residual.ensures ∙ sym (sixteen digits c.if-digits-ne16.false ∙ pair_refused digits c.loop-k.bytes c.loop-k.k pair c.loop-k.invariant.1 c.in_err-bytes.ensures)
 
 pub returns : goal.returns
 returns c =

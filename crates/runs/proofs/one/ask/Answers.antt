@@ -27,7 +27,7 @@ returns-in-Look g c =
     let inside = g.P.Pool.inside s.pool in
     let n = g.P.Pool.next s.pool in
     let last = c.look.new.self in
-    let did = asked (state k inside c.args.table.now) c.args.call (Look w a.hold a.cell) n w (look k w a.hold a.cell) last.core (g.P.Pool.inside last.pool) c.look.result c.with-block-in-Look.result a.is refl c.look.ensures.call c.with-block-in-Look.ensures in
+    let did = asked (state k inside c.args.table.now) c.args.call (Look w a.hold a.cell) n w (look k w a.hold a.cell) last.core (g.P.Pool.inside last.pool) c.look.result c.with_block-in-Look.result a.is refl c.look.ensures.call c.with_block-in-Look.ensures in
     record { to = did.0; reply = did.1 }
 
 pub returns-in-Drop : goal.returns-in-Drop
@@ -39,7 +39,7 @@ returns-in-Drop g c =
     let inside = g.P.Pool.inside s.pool in
     let n = g.P.Pool.next s.pool in
     let last = c.drop.new.self in
-    let did = asked (state k inside c.args.table.now) c.args.call (Drop w) n w (drop k w) last.core (g.P.Pool.inside last.pool) c.drop.result c.with-block-in-Drop.result a.is refl c.drop.ensures.call c.with-block-in-Drop.ensures in
+    let did = asked (state k inside c.args.table.now) c.args.call (Drop w) n w (drop k w) last.core (g.P.Pool.inside last.pool) c.drop.result c.with_block-in-Drop.result a.is refl c.drop.ensures.call c.with_block-in-Drop.ensures in
     record { to = did.0; reply = did.1 }
 
 pub returns-in-Retire : goal.returns-in-Retire
@@ -51,7 +51,7 @@ returns-in-Retire g c =
     let inside = g.P.Pool.inside s.pool in
     let n = g.P.Pool.next s.pool in
     let last = c.retire.new.self in
-    let did = asked (state k inside c.args.table.now) c.args.call (Retire w a.block) n w (retire k w a.block) last.core (g.P.Pool.inside last.pool) c.retire.result c.with-block-in-Retire.result a.is refl c.retire.ensures.call c.with-block-in-Retire.ensures in
+    let did = asked (state k inside c.args.table.now) c.args.call (Retire w a.block) n w (retire k w a.block) last.core (g.P.Pool.inside last.pool) c.retire.result c.with_block-in-Retire.result a.is refl c.retire.ensures.call c.with_block-in-Retire.ensures in
     record { to = did.0; reply = did.1 }
 
 pub returns-in-Relink : goal.returns-in-Relink
@@ -63,7 +63,7 @@ returns-in-Relink g c =
     let inside = g.P.Pool.inside s.pool in
     let n = g.P.Pool.next s.pool in
     let last = c.relink.new.self in
-    let did = asked (state k inside c.args.table.now) c.args.call (Relink w a.cell a.expected a.new) n w (relink k w a.cell a.expected a.new) last.core (g.P.Pool.inside last.pool) c.relink.result c.with-block-in-Relink.result a.is refl c.relink.ensures.call c.with-block-in-Relink.ensures in
+    let did = asked (state k inside c.args.table.now) c.args.call (Relink w a.cell a.expected a.new) n w (relink k w a.cell a.expected a.new) last.core (g.P.Pool.inside last.pool) c.relink.result c.with_block-in-Relink.result a.is refl c.relink.ensures.call c.with_block-in-Relink.ensures in
     record { to = did.0; reply = did.1 }
 
 pub returns-in-Turn : goal.returns-in-Turn
@@ -75,5 +75,5 @@ returns-in-Turn g c =
     let inside = g.P.Pool.inside s.pool in
     let n = g.P.Pool.next s.pool in
     let last = c.turn.new.self in
-    let did = asked (state k inside c.args.table.now) c.args.call (Turn w) n w (turn k inside n w) last.core (g.P.Pool.inside last.pool) c.turn.result c.with-block-in-Turn.result a.is refl c.turn.ensures c.with-block-in-Turn.ensures in
+    let did = asked (state k inside c.args.table.now) c.args.call (Turn w) n w (turn k inside n w) last.core (g.P.Pool.inside last.pool) c.turn.result c.with_block-in-Turn.result a.is refl c.turn.ensures c.with_block-in-Turn.ensures in
     record { to = did.0; reply = did.1 }

@@ -18,12 +18,12 @@ loop-call-preserved g c =
       goes_more _ (take i calls) _ (vec_items l.answers) _ (state l.keeper.core (g.P.Pool.inside l.keeper.pool) l.table) _ x (g.P.Pool.next l.keeper.pool) c.ask-answer.result
           l.invariant.2 (g.met.P.Pool.chosen l.keeper.pool) did.to did.reply
           (take_more calls i x low ∙ ap (λ y. take i calls ++ y ∷ []) (sym c.call-item.is))
-          c.push-reserved.ensures.items,
+          c.push_reserved.ensures.items,
     )
 
 pub returns : goal.returns
 returns g c =
     let calls = c.args.calls.now in
     let l = c.loop-call in
-    let made = c.in-ok-keeper.ensures in
+    let made = c.in_ok-keeper.ensures in
     played c.args.form (g.P.Pool.inside c.args.pool) _ c.args.table.now _ calls (take l.call-index calls) _ _ made.0 (ap g.P.Pool.inside made.1) (take_all l.call-index calls (omega arith)) l.invariant.2

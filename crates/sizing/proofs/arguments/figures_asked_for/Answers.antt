@@ -4,7 +4,7 @@ use Rattle.sizing.proofs.Counts.{none, one, two, three, four, five, more, text_a
 use Rattle.sizing.proofs.arguments.figures_asked_for.Goals as goal
 
 pub returns-in-empty : goal.returns-in-empty
-returns-in-empty c = none (map string_bytes c.args.words.now) _ (simp length-map (search rules)) c.worked-example.ensures.form
+returns-in-empty c = none (map string_bytes c.args.words.now) _ (simp length-map (search rules)) c.worked_example.ensures.form
 
 pub returns-in-len1 : goal.returns-in-len1
 returns-in-len1 c = one (map string_bytes c.args.words.now) (simp length-map (search rules))
@@ -22,12 +22,12 @@ pub returns-in-len5 : goal.returns-in-len5
 returns-in-len5 c =
     let words = c.args.words.now in
     let n : length words ≡ 5 = search rules in
-    let w = c.as-str.ensures.value ∙ text_at words 0 _ (omega arith) c.w-item.is in
-    let h = c.as-str-in-len5.ensures.value ∙ text_at words 1 _ (omega arith) c.h-item.is in
-    let m = c.as-str-in-len5-2.ensures.value ∙ text_at words 2 _ (omega arith) c.m-item.is in
-    let f = c.as-str-in-len5-3.ensures.value ∙ text_at words 3 _ (omega arith) c.f-item.is in
-    let g = c.as-str-in-len5-4.ensures.value ∙ text_at words 4 _ (omega arith) c.g-item.is in
-    five (map string_bytes words) c.figures-of.result (simp length-map n) (rw (← w, ← h, ← m, ← f, ← g) c.figures-of.ensures)
+    let w = c.as_str.ensures.value ∙ text_at words 0 _ (omega arith) c.w-item.is in
+    let h = c.as_str-in-len5.ensures.value ∙ text_at words 1 _ (omega arith) c.h-item.is in
+    let m = c.as_str-in-len5-2.ensures.value ∙ text_at words 2 _ (omega arith) c.m-item.is in
+    let f = c.as_str-in-len5-3.ensures.value ∙ text_at words 3 _ (omega arith) c.f-item.is in
+    let g = c.as_str-in-len5-4.ensures.value ∙ text_at words 4 _ (omega arith) c.g-item.is in
+    five (map string_bytes words) c.figures_of.result (simp length-map n) (rw (← w, ← h, ← m, ← f, ← g) c.figures_of.ensures)
 
 pub returns-in-default : goal.returns-in-default
 returns-in-default c = more (map string_bytes c.args.words.now) (simp length-map (search rules))

@@ -13,7 +13,15 @@ returns-then-not-fits c =
 pub loop-figure-preserved : goal.loop-figure-preserved
 loop-figure-preserved c = before_more c.args.form c.loop-figure.figure-index c.loop-figure.invariant (c.if-not-fits.ensures.0 refl)
 
-pub invariant-of-result : goal.invariant-of-result
-invariant-of-result c =
+pub invariant_of-result : goal.invariant_of-result
+invariant_of-result c =
     let fit = fit_all c.args.form c.loop-figure.figure-index c.loop-figure-test.false c.loop-figure.invariant in
-    (fit.0, (fit.1, (fit.2, (fit.3, (fit.4, (fit.5, (fit.6, tt)))))))
+    record {
+      workers_fit = fit.0;
+      holds_fit = fit.1;
+      blocks_fit = fit.2;
+      live_fit = fit.3;
+      taking_period_fits = fit.4;
+      trying_period_fits = fit.5;
+      starting_era_fits = fit.6;
+    }

@@ -6,8 +6,8 @@ use Rattle.keeper.proofs.FitsParts.{parts_over, whole}
 use Rattle.keeper.proofs.FitsTurns.{step_fits}
 use Rattle.keeper.proofs.keepers.Keeper.turn.Goals as goal
 
-pub invariant-of-self : goal.invariant-of-self
-invariant-of-self g c =
+pub invariant_of-self : goal.invariant_of-self
+invariant_of-self g c =
     let s = c.args.self.now in
     let inside = g.P.Pool.inside s.pool in
     let n = g.P.Pool.next s.pool in

@@ -5,4 +5,4 @@ use Rattle.records.proofs.hex.HexByteDisplay.fmt.Goals as goal
 
 pub returns-clause-writes : goal.returns-clause-writes
 returns-clause-writes g c plain ok =
-    has_written_of_eq g.W.Write.write_str_gives _ _ _ _ (encode_byte c.args.self.now.0 _ _ (omega arith) c.hex-digit-high.ensures c.hex-digit-low.ensures) (c.write.ensures.shows plain ok)
+    has_written_of_eq g.W.Write.write_str_gives _ _ _ _ (encode_byte c.args.self.now.0 _ _ (omega arith) c.hex_digit-high.ensures c.hex_digit-low.ensures) (c.write.ensures.writes plain ok)

@@ -9,7 +9,7 @@ loop-byte-init g c plain = record { wrote = writes_in_calls_nil g.W.Write.write_
 pub loop-byte-preserved : goal.loop-byte-preserved
 loop-byte-preserved g c plain =
     let inside : c.loop-byte.byte-index < length c.args.self.now.0 = omega arith in
-    put_byte g.W.Write.write_str_gives c.args.f.now c.loop-byte.f c.write.new.self c.args.self.now.0 c.loop-byte.byte-index inside (c.loop-byte.invariant plain) (c.in-ok-write.ensures.shows (c.loop-byte.invariant plain).plain (refl {a = true}))
+    put_byte g.W.Write.write_str_gives c.args.f.now c.loop-byte.f c.write.new.self c.args.self.now.0 c.loop-byte.byte-index inside (c.loop-byte.invariant plain) (c.in_ok-write.ensures.writes (c.loop-byte.invariant plain).plain (refl {a = true}))
 
 pub returns-clause-writes : goal.returns-clause-writes
 returns-clause-writes g c plain ok =

@@ -1,4 +1,4 @@
 use Rattle.sizing.proofs.lines.SizingDisplay.fmt.Goals as goal
 
 pub returns-clause-writes : goal.returns-clause-writes
-returns-clause-writes g c p o = rw (← c.yes-or-no-met.ensures) (c.write.ensures.shows p o)
+returns-clause-writes g c p o = rw (← c.yes_or_no-met.ensures) (c.write.ensures.writes p o)

@@ -15,15 +15,15 @@ returns-then-number-self c =
     ] in
     record { answer = did.answer; leaves = did.leaves; unmoved = refl; order = tt }
 
-pub invariant-of-self : goal.invariant-of-self
-invariant-of-self c =
+pub invariant_of-self : goal.invariant_of-self
+invariant_of-self c =
     let s = c.args.self.now in
     let n = c.args.number in
     let did = gave s.size s.ins (omega arith) (order s) n c.if-number-self.false c.if-self-number.false s.listed in
     let many = length_ringed s.spots s.head s.held in
     let room = did.room in
     let put = ring_put s.spots s.head s.held n (omega arith) (omega arith) in
-    (omega arith, (did.back _ put, tt))
+    record { fits = omega arith; listed = did.back _ put }
 
 pub returns : goal.returns
 returns c =

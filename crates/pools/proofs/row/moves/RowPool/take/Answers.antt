@@ -10,11 +10,11 @@ bounds-self-number c =
     let more = ring_more s.spots s.head s.held (omega arith) (omega arith) in
     omega (arith, (took s.size s.ins (omega arith) (order s) _ _ more s.listed).low)
 
-pub invariant-of-self : goal.invariant-of-self
-invariant-of-self c =
+pub invariant_of-self : goal.invariant_of-self
+invariant_of-self c =
     let s = c.args.self.now in
     let more = ring_more s.spots s.head s.held (omega arith) (omega arith) in
-    (omega arith, ((took s.size s.ins (omega arith) (order s) _ _ more s.listed).listed, tt))
+    record { fits = omega arith; listed = (took s.size s.ins (omega arith) (order s) _ _ more s.listed).listed }
 
 pub returns : goal.returns
 returns c =

@@ -15,21 +15,21 @@ returns-then-number-self c =
     ] in
     record { answer = did.answer; leaves = did.leaves; unmoved = refl; order = tt }
 
-pub overflow-sub-self : goal.overflow-sub-self
-overflow-sub-self c =
+pub overflow_sub-self : goal.overflow_sub-self
+overflow_sub-self c =
     let s = c.args.self.now in
     let did = gave s.size s.ins (omega arith) (order s) c.args.number c.if-number-self.false c.if-self-number.false s.listed in
     omega (arith, did.room, length_stacked s.size s.top s.spots (omega arith))
 
-pub invariant-of-self : goal.invariant-of-self
-invariant-of-self c =
+pub invariant_of-self : goal.invariant_of-self
+invariant_of-self c =
     let s = c.args.self.now in
     let n = c.args.number in
     let did = gave s.size s.ins (omega arith) (order s) n c.if-number-self.false c.if-self-number.false s.listed in
     let many = length_stacked s.size s.top s.spots (omega arith) in
     let room = did.room in
     let put = stack_put s.size s.top s.spots n (omega arith) (omega arith) (omega arith) in
-    (omega arith, (did.front _ put, tt))
+    record { fits = omega arith; listed = did.front _ put }
 
 pub returns : goal.returns
 returns c =
