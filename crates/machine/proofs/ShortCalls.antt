@@ -1,6 +1,6 @@
 -- That every call keeps batches short.
 use Rattle.std.proofs.Common.{◌≡◌, ℕ, ◌+◌, ◌*◌, ◌/◌, ◌%◌, ◌<◌, ◌≤◌, Bool, true, false, cond, ◌&&◌, eqb, ltb, ◌≢◌, List, length, get_or, set, Some, None, Option, sym, refl, ap, ◌∙◌, subst, div-add-mod', arith}
-use native.Mathlib.Nat.{mul_mod_left, add_mod_right}
+use native.Mathlib.Nat.{mul-mod_left, add-mod_right}
 use native.Mathlib.Decide.{ℕ_discrete}
 use Rattle.std.proofs.lemmas.Bool.Decides.{nat_tests}
 use Rattle.figures.specs.Limits.{Fit}
@@ -90,7 +90,7 @@ one_more_filled form fit n o = by_way (eqb ((n + 1) % form.trying_period) 0) ref
     by_way false e =
         let p : ℕ = form.trying_period in
         let m : ℕ = o.0 in
-        let z : (m * p + p) % p ≡ 0 = add_mod_right (m * p) p ∙ mul_mod_left m p in
+        let z : (m * p + p) % p ≡ 0 = add-mod_right (m * p) p ∙ mul-mod_left m p in
         let ne : n + 1 ≢ m * p + p = λ s. let t : (n + 1) % p ≡ 0 = ap (λ i. i % p) s ∙ z in let f : eqb ((n + 1) % p) 0 ≡ true = grind (arith, nat_tests) in let g : ◌≡◌ {A = ℕ} 0 1 = cc in omega arith in
         let a = o.2 in
         let b = o.3 in

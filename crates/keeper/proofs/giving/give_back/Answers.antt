@@ -13,12 +13,12 @@ use Rattle.keeper.proofs.giving.give_back.Goals as goal
 ends : (given more all : ℕ) → more ≡ 0 → given + more ≡ all → given ≡ all
 ends given more all e h = omega arith
 
-pub returns-in-default : goal.returns-in-default
-returns-in-default g c =
+pub returns-in_default : goal.returns-in_default
+returns-in_default g c =
     let l = c.loop-handled in
     let i = l.invariant in
     let m : ℕ = 2048 - l.handled in
-    let none = ap (members m l.core) c.in-default.is ∙ members_none m l.core in
+    let none = ap (members m l.core) c.in_default.is ∙ members_none m l.core in
     record {
       core = sym (ap (all_pooled l.core) none) ∙ i.4;
       pool = sym (ap (gained_all (g.P.Pool.inside l.pool)) none) ∙ i.5;

@@ -29,5 +29,5 @@ returns-in-len5 c =
     let g = c.as_str-in-len5-4.ensures.value ∙ text_at words 4 _ (omega arith) c.g-item.is in
     five (map string_bytes words) c.figures_of.result (simp length-map n) (rw (← w, ← h, ← m, ← f, ← g) c.figures_of.ensures)
 
-pub returns-in-default : goal.returns-in-default
-returns-in-default c = more (map string_bytes c.args.words.now) (simp length-map (search rules))
+pub returns-in_default : goal.returns-in_default
+returns-in_default c = more (map string_bytes c.args.words.now) (simp length-map (search rules))

@@ -4,8 +4,8 @@ use Rattle.machine.specs.declared.states.Block.{Block}
 use Rattle.machine.specs.declared.states.BlockTable.{BlockTable}
 use Rattle.machine.proofs.states.BlockTable.retire.Goals as goal
 
-pub returns-in-default : goal.returns-in-default
-returns-in-default c =
+pub returns-in_default : goal.returns-in_default
+returns-in_default c =
     let past : length c.args.self.now.rows ≤ c.args.block = search rules in
     let table : List Block → BlockTable = λ rows. record { rows = rows } in
     ap table (sym (set_past c.args.self.now.rows c.args.block _ past))
