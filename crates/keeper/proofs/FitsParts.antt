@@ -84,10 +84,10 @@ number_set (y ∷ ys) (suc i) x (suc j) h n = number_set ys i x j h n
 
 -- what a keeper's type says, part by part
 abbrev pub Parts : Core → Type 0
-Parts k = (all_fit k.form ≡ true) × (TakingsFit k × (TasksFit k × (BatchesFit k × (ListsFit k × (BlocksFit k × (AnchorsFit k × Unit {0}))))))
+Parts k = record { figures : all_fit k.form ≡ true; takings : TakingsFit k; tasks : TasksFit k; batches : BatchesFit k; lists : ListsFit k; blocks : BlocksFit k; anchors : AnchorsFit k }
 
 pub parts : (k : Core) → Fits k → Parts k
-parts k f = (f.figures, (f.takings, (f.tasks, (f.batches, (f.lists, (f.blocks, (f.anchors, tt)))))))
+parts k f = record { figures = f.figures; takings = f.takings; tasks = f.tasks; batches = f.batches; lists = f.lists; blocks = f.blocks; anchors = f.anchors }
 
 -- the same of a keeper that a move comes to
 pub parts_after : (k : Core) (r : Result (Bool × Option ℕ) Refusal) (m : Move) → plain k r ≡ m → Fits m.core → Parts k

@@ -4,7 +4,7 @@ use Rattle.pools.specs.Counts.{tally}
 use Rattle.pools.proofs.Moves.{taken_some}
 use Rattle.pool_runs.proofs.Draws.{drew_none, drew_more, returned, drew_back}
 use Rattle.pool_runs.proofs.circuit.circulate.Goals as goal
-use Rattle.pool_runs.proofs.circuit.circulate.Goals.{in-Ok, in-default}
+use Rattle.pool_runs.proofs.circuit.circulate.Goals.{in-Ok, in_default}
 
 pub loop-init : goal.loop-init
 loop-init g c =
@@ -27,12 +27,12 @@ loop-preserved g c =
             w.in-Ok.ensures.answer c.take.ensures.leaves (g.met.P.Pool.chosen l.pool)
             (ap vec_items w.numbers-is ∙ w.push_reserved.ensures.items),
       )
-      | in-default w ↦
+      | in_default w ↦
           let many = l.invariant.2.many in
           let same : vec_len l.numbers ≡ length (vec_items l.numbers) = l.numbers.ok.0 in
           let least = c.min-many.ensures in
           let some : 0 < tally now = omega arith in
-          absurd (w.in-default.not-Ok next (c.take.ensures.answer ∙ sym (taken_some now next some)))
+          absurd (w.in_default.not-Ok next (c.take.ensures.answer ∙ sym (taken_some now next some)))
     ]
 
 pub loop-number-preserved : goal.loop-number-preserved
