@@ -1,8 +1,7 @@
 -- The arithmetic of the ceiling.
-use Rattle.std.proofs.Common.{◌≡◌, ℕ, ◌+◌, ◌*◌, ◌<◌, ◌≤◌, sym, refl, ap, ◌∙◌, mul_assoc, mul_comm, add-mul, mul-one, mul-add, arith}
+use Rattle.std.proofs.Common.{◌≡◌, ℕ, ◌+◌, ◌*◌, ◌≤◌, sym, ap, ◌∙◌, mul_assoc, mul_comm, mul-add, arith}
 use Rattle.std.proofs.lemmas.Nat.{mul-le}
-use Rattle.figures.specs.declared.limits.Form.{Form}
-use Rattle.figures.specs.Ceiling.{ceiling, ceiling_of, list_most, batch_most, CountsPlaces, NoneLarger, NeverFalls}
+use Rattle.figures.specs.Ceiling.{ceiling, ceiling_of, CountsPlaces, NeverFalls}
 
 -- each product of the ceiling, and the most that it can be
 pub record Bounded (w h m f g : ℕ) : Type 0 where

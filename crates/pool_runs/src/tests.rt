@@ -96,13 +96,22 @@ fn refusals_print_layer_number_and_place(rt: HostRuntime) -> Result<(), Fail> {
 fn numbers_circulate(rt: HostRuntime) -> Result<(), Fail> {
     let mut stack = Stack::new(3)?;
     let mut row = Row::new(3)?;
-    assert_eq!(rt; circulate(rt.alloc(), &mut stack, 2)?.as_slice(), &[0, 1]);
-    assert_eq!(rt; circulate(rt.alloc(), &mut row, 2)?.as_slice(), &[0, 1]);
+    assert_eq!(rt;
+        circulate(rt.alloc(), &mut stack, 2)?.as_slice(),
+        [0, 1].as_slice()
+    );
+    assert_eq!(rt;
+        circulate(rt.alloc(), &mut row, 2)?.as_slice(),
+        [0, 1].as_slice()
+    );
     assert_eq!(rt;
         circulate(rt.alloc(), &mut stack, 9)?.as_slice(),
-        &[1, 0, 2]
+        [1, 0, 2].as_slice()
     );
-    assert_eq!(rt; circulate(rt.alloc(), &mut row, 9)?.as_slice(), &[2, 0, 1]);
+    assert_eq!(rt;
+        circulate(rt.alloc(), &mut row, 9)?.as_slice(),
+        [2, 0, 1].as_slice()
+    );
     Ok(())
 }
 
@@ -126,11 +135,11 @@ fn a_run_is_answered_move_by_move(rt: HostRuntime) -> Result<(), Fail> {
     ];
     assert_eq!(rt;
         play(rt.alloc(), &mut Stack::new(2)?, &moves)?.as_slice(),
-        &answers
+        answers.as_slice()
     );
     assert_eq!(rt;
         play(rt.alloc(), &mut Row::new(2)?, &moves)?.as_slice(),
-        &answers
+        answers.as_slice()
     );
     Ok(())
 }

@@ -1,5 +1,5 @@
 -- What is answered to each number of arguments.
-use Rattle.std.proofs.Common.{◌≡◌, ℕ, ◌<◌, ◌≤◌, List, [], ◌∷◌, map, length, get_or, Ok, Err, string_bytes, Result, String, sym, refl, ap, ◌∙◌, arith}
+use Rattle.std.proofs.Common.{◌≡◌, ℕ, ◌<◌, List, [], ◌∷◌, map, length, get_or, Ok, Err, string_bytes, Result, String, sym, refl, ap, ◌∙◌, arith}
 use Rattle.std.proofs.lemmas.List.{get_or-map}
 use Rattle.figures.specs.declared.limits.Figure.TheVariants.{Holds, Live, TakingPeriod, TryingPeriod}
 use Rattle.figures.specs.declared.checked.Figures.{Figures}

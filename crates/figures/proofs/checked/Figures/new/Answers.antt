@@ -1,4 +1,4 @@
-use Rattle.std.proofs.Common.{refl, arith}
+use Rattle.std.proofs.Common.{refl}
 use Rattle.std.proofs.lemmas.Bool.Decides.{not_from_Decides}
 use Rattle.figures.proofs.FormOrder.{before_more, before_first, fit_all}
 use Rattle.figures.proofs.checked.Figures.new.Goals as goal

@@ -12,9 +12,9 @@ invariant_of-result c =
     let made = c.in_ok-spots.ensures in record {
       fits = omega (arith, made.0);
       listed =
-        listed_fresh n _ _
-            (stack_fresh n spots (omega (arith, made.0)) (λ k h. (made.1 k (omega (arith, made.0))).0))
-            (all_in n ins (omega (arith, made.0)) (λ k h. (made.1 k (omega (arith, made.0))).1));
+          listed_fresh n _ _
+          (stack_fresh n spots (omega (arith, made.0)) (λ k h. (made.1 k (omega (arith, made.0))).0))
+          (all_in n ins (omega (arith, made.0)) (λ k h. (made.1 k (omega (arith, made.0))).1));
     }
 
 pub returns : goal.returns
