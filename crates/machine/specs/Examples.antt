@@ -119,9 +119,7 @@ examples =
     ∷ example on_stack 1 (taking ++ (looking ++ cutting)) hanging (on ∷ on ∷ with_value 1 ∷ on ∷ on ∷ on ∷ done ∷ [])
     -- then a drop's three turns give back 0, 2 and 0 blocks
     ∷ example on_stack 1 (taking ++ (looking ++ (cutting ++ hanging))) dropping (on ∷ on ∷ with_given 1 2 ∷ done ∷ [])
-    -- a look in its place empties the list and gives both back before it writes the era
-    ∷ example on_stack 1 (taking ++ (looking ++ (cutting ++ hanging))) (Look 0 0 0 ∷ replicate 8 (Turn 0)) (on ∷ on ∷ on ∷ on ∷ with_given 1 2 ∷ on ∷ on ∷ on ∷ done ∷ [])
-    -- after the drop the next take answers 0 on a stack and 1 on a row
+    -- the next take answers 0 on a stack and 1 on a row
     ∷ example on_stack 1 (taking ++ (looking ++ (cutting ++ (hanging ++ dropping)))) taking (on ∷ on ∷ with_value 0 ∷ [])
     ∷ example in_row 1 (taking ++ (looking ++ (cutting ++ (hanging ++ dropping)))) taking (on ∷ on ∷ with_value 1 ∷ [])
     -- in a fresh keeper, after a take and a retire, the second turn of the try gives back 1
@@ -154,6 +152,14 @@ examples =
 -- the examples print the lines that stand with them
 abbrev pub Worked : Type 0
 Worked = map printed examples ≡ map (λ e. e.lines) examples
+
+-- where two blocks hang, a look in place of the drop empties the list and gives both back before it writes the era
+abbrev pub emptying : Example
+emptying = example on_stack 1 (taking ++ (looking ++ (cutting ++ hanging))) (Look 0 0 0 ∷ replicate 8 (Turn 0)) (on ∷ on ∷ on ∷ on ∷ with_given 1 2 ∷ on ∷ on ∷ on ∷ done ∷ [])
+
+-- it prints its lines
+abbrev pub Emptied : Type 0
+Emptied = printed emptying ≡ emptying.lines
 
 -- the end of calls over a stack
 abbrev pub end_of : List (Call Reading) → Beside Reading

@@ -2,8 +2,7 @@
 use Rattle.std.proofs.Common.{◌≡◌, ℕ, ◌-◌, cond, eqb, List, length, get_or, take, drop, None, Option, sym, ap, ◌∙◌}
 use Rattle.std.proofs.lemmas.List.{take_rest}
 use Rattle.std.specs.Option.{option_map}
-use Rattle.records.specs.Hexadecimal.{eight_bytes}
-use Rattle.records_lines.specs.Lines.{entry_of}
+use Rattle.records_lines.specs.Lines.{eight_bytes, entry_of}
 use Rattle.records_lines.specs.declared.lines.Entry.TheVariants.{Reading, Branch}
 
 module _ (line : List ℕ) (bytes : Option (List ℕ)) (blank : get_or line 1 0 ≡ 32) (read : bytes ≡ eight_bytes (take (length line - 2) (drop 2 line))) where
