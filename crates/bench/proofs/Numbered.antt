@@ -1,7 +1,6 @@
 -- Lines that are numbered one after another.
-use Rattle.std.proofs.Common.{◌≡◌, ℕ, ◌+◌, List, [], ◌∷◌, ◌++◌, length, IfOk, Ok, Err, Result, sym, refl, ap, ◌∙◌, arith}
+use Rattle.std.proofs.Common.{◌≡◌, ℕ, ◌+◌, List, [], ◌∷◌, ◌++◌, length, IfOk, Ok, Err, Result, ap, ◌∙◌, arith}
 use Rattle.machine.specs.Machine.{Reply}
-use Rattle.bench.specs.declared.lines.Line.{Line}
 use Rattle.bench.specs.Lines.{line_of, lines_from}
 
 -- one answer more

@@ -1,5 +1,5 @@
 -- The limits of the figures of a keeper.
-use Rattle.std.proofs.Common.{◌≡◌, ℕ, ◌≤◌, Bool, true, false, ◌&&◌, leb, refl, arith}
+use Rattle.std.proofs.Common.{◌≡◌, Bool, true, false, leb, refl, arith}
 use Rattle.std.proofs.lemmas.Bool.Decides.{nat_tests}
 use Rattle.figures.specs.Limits.{value, most, Fits, Fit, Outside}
 use Rattle.figures.specs.declared.refusals.Refusal.{Refusal}

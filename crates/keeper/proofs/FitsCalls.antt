@@ -1,5 +1,5 @@
 -- That a keeper's numbers fit at the making and after every call.
-use Rattle.std.proofs.Common.{◌≡◌, ℕ, ◌+◌, ◌-◌, ◌*◌, ◌<◌, ◌≤◌, Bool, true, false, cond, ◌&&◌, eqb, ltb, leb, List, [], ◌∷◌, get_or, replicate, Some, None, Option, refl, arith}
+use Rattle.std.proofs.Common.{◌≡◌, ℕ, true, ◌&&◌, ltb, leb, get_or, replicate, Some, None, Option, refl, arith}
 use Rattle.std.proofs.lemmas.Bool.Decides.{nat_tests}
 use Rattle.figures.specs.Limits.{Fit}
 use Rattle.figures.specs.declared.limits.Form.{Form}
@@ -10,16 +10,16 @@ use Rattle.machine.specs.declared.states.Worker.{Worker}
 use Rattle.machine.specs.declared.states.Task.{Task}
 use Rattle.machine.specs.declared.states.Task.TheVariants.{Idle, TakeEra, LookCell, DropList, TryVisit}
 use Rattle.machine.specs.declared.states.Core.{Core}
-use Rattle.machine.specs.State.{fresh, blank_block, fresh_block, blank_worker, fresh_worker, fresh_reservation, block, worker, with_block}
+use Rattle.machine.specs.State.{fresh, blank_block, fresh_block, blank_worker, fresh_worker, fresh_reservation, block, worker}
 use Rattle.machine.specs.Moves.{Move}
-use Rattle.machine.specs.Cells.{home_block, home_link, held, with_link, with_cell, with_names, named_more, named_less}
+use Rattle.machine.specs.Cells.{home_block, home_link, held, with_link, with_cell, named_more, named_less}
 use Rattle.machine.specs.Hands.{owns}
-use Rattle.machine.specs.Calls.{is_worker, is_hold, is_cell, is_block, or_none, free_checks, take, look_checks, look, drop, joined, newest_of, retired_block, unlinked, retired, with_batch, try_due, retiring, retire_checks, retire, unowned, disowned, relinked, relink_checks, relink}
+use Rattle.machine.specs.Calls.{is_worker, is_hold, is_cell, is_block, or_none, free_checks, take, look_checks, look, drop, joined, newest_of, retired_block, unlinked, retired, with_batch, try_due, retire_checks, retire, disowned, relink_checks, relink}
 use Rattle.machine.specs.Machine.{all_fit}
-use Rattle.machine.proofs.Passing.{by_test, both_left, both_right, Passed, checked_keeps}
+use Rattle.machine.proofs.Passing.{by_test, both_left, both_right, checked_keeps}
 use Rattle.machine.proofs.Stores.{replicate_all}
 use Rattle.keeper.specs.Fits.{number_fits, task_fits, batch_fits, list_fits, block_fits, Fits}
-use Rattle.keeper.proofs.Ranges.{seven, together, batch_ranges}
+use Rattle.keeper.proofs.Ranges.{seven, together}
 use Rattle.keeper.proofs.FiguresFit.{form_fit}
 use Rattle.keeper.proofs.FitsParts.{fits_live, fits_anchor, fits_block, fits_worker, fits_task, number_set}
 

@@ -1,12 +1,12 @@
 -- A keeper whose numbers fit, with one part replaced.
-use Rattle.std.proofs.Common.{◌≡◌, ℕ, zero, suc, Bool, true, ltb, List, [], ◌∷◌, get_or, set, Some, None, Option, Result, sym, ap, subst}
+use Rattle.std.proofs.Common.{◌≡◌, ℕ, zero, suc, Bool, true, ltb, List, [], ◌∷◌, get_or, set, None, Option, Result, sym, ap, subst}
 use Rattle.machine.specs.declared.refusals.Refusal.{Refusal}
 use Rattle.machine.specs.declared.states.Block.{Block}
 use Rattle.machine.specs.declared.states.Reservation.{Reservation}
 use Rattle.machine.specs.declared.states.Task.{Task}
 use Rattle.machine.specs.declared.states.Worker.{Worker}
 use Rattle.machine.specs.declared.states.Core.{Core}
-use Rattle.machine.specs.State.{blank_block, blank_worker, fresh_reservation, block, worker, reservation, with_era, with_live, with_anchor, with_block, with_reservation, with_worker, with_task}
+use Rattle.machine.specs.State.{blank_block, blank_worker, fresh_reservation, block, worker, with_era, with_live, with_anchor, with_block, with_reservation, with_worker}
 use Rattle.machine.specs.Walking.{pooled, all_pooled}
 use Rattle.machine.proofs.Stores.{set_keeps}
 use Rattle.machine.specs.Moves.{Move, Outcome}

@@ -1,26 +1,25 @@
 -- That a keeper's numbers fit after every step.
-use Rattle.std.proofs.Common.{◌≡◌, ℕ, ◌+◌, ◌-◌, ◌*◌, ◌<◌, ◌≤◌, Bool, true, false, cond, ◌&&◌, eqb, ltb, leb, List, [], ◌∷◌, get_or, Some, None, Ok, Err, Option, Result, unwrap_or, sym, refl, ap, ◌∙◌, subst, mul-le-mul_right, arith}
+use Rattle.std.proofs.Common.{◌≡◌, ℕ, ◌+◌, ◌-◌, ◌*◌, ◌<◌, ◌≤◌, Bool, true, ◌&&◌, eqb, ltb, leb, List, get_or, Some, None, Ok, Err, Option, Result, unwrap_or, refl, subst, mul-le-mul_right, arith}
 use Rattle.std.proofs.lemmas.Bool.Decides.{nat_tests}
 use Rattle.figures.specs.Limits.{Fit}
 use Rattle.pools.specs.declared.PoolFault.{PoolFault}
 use Rattle.pools.specs.Meaning.{taken}
 use Rattle.machine.specs.declared.states.Batch.{Batch}
-use Rattle.machine.specs.declared.states.Block.{Block}
 use Rattle.machine.specs.declared.states.HungList.{HungList}
 use Rattle.machine.specs.declared.states.HungList.TheVariants.{Off, Empty, Newest}
 use Rattle.machine.specs.declared.states.Task.{Task}
 use Rattle.machine.specs.declared.states.Task.TheVariants.{Idle, TakeEra, TakeBlock, LookCell, LookEra, LookList, LookWalk, LookAgain, LookWrite, DropList, DropWalk, DropEra, TryVisit, TryHang, TryLast}
 use Rattle.machine.specs.declared.states.Core.{Core}
-use Rattle.machine.specs.State.{block, worker, reservation, place_of, with_era, with_live, with_block, with_worker, with_task, idle}
+use Rattle.machine.specs.State.{block, worker, reservation, place_of, with_era, with_block, with_task, idle}
 use Rattle.machine.specs.Moves.{Move}
 use Rattle.machine.specs.Cells.{home}
-use Rattle.machine.specs.Taking.{next_count, counted_up, take_era, taken_block, took, take_block}
+use Rattle.machine.specs.Taking.{next_count, counted_up, take_era, taken_block, took}
 use Rattle.machine.specs.Walking.{with_count, due, count_down, all_pooled, handled}
 use Rattle.machine.specs.Looking.{own_reservation, readable, with_list, with_own_era, look_list, look_on}
-use Rattle.machine.specs.Dropping.{drop_task, drop_list, drop_on}
-use Rattle.machine.specs.Trying.{places, passed_over, block_after, visited, hangings, with_slot, aside_for, try_visit, with_under, hung_at, hanged, hang_on, try_hang, emptied, settled, try_last}
-use Rattle.machine.specs.Turns.{step, turn_checks, turn}
-use Rattle.machine.proofs.Passing.{by_test, both_left, both_right, checked_keeps}
+use Rattle.machine.specs.Dropping.{drop_task, drop_on}
+use Rattle.machine.specs.Trying.{places, passed_over, block_after, visited, with_slot, try_visit, with_under, hung_at, hanged, hang_on, try_hang, settled, try_last}
+use Rattle.machine.specs.Turns.{step}
+use Rattle.machine.proofs.Passing.{by_test, both_left}
 use Rattle.keeper.specs.Fits.{number_fits, task_fits, batch_fits, list_fits, block_fits, Fits}
 use Rattle.keeper.proofs.Ranges.{seven, together, block_ranges, batch_ranges, recounted_fits}
 use Rattle.keeper.proofs.FiguresFit.{form_fit}

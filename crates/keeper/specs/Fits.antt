@@ -1,6 +1,6 @@
 -- What keeps every index and sum of a keeper's code in range: its figures are within their limits, and each number that stands for a
 -- block, a hold, a cell or a place is one that the tables have.
-use Rattle.std.specs.Prelude.{◌≡◌, ℕ, ◌+◌, ◌<◌, Bool, true, false, ◌&&◌, Some, None, Option, nat_le, nat_lt, slice_index_or}
+use Rattle.std.specs.Prelude.{◌≡◌, ℕ, ◌+◌, Bool, true, ◌&&◌, Some, None, Option, nat_le, nat_lt, slice_index_or}
 use Rattle.machine.specs.declared.states.Batch.{Batch}
 use Rattle.machine.specs.declared.states.Block.{Block}
 use Rattle.machine.specs.declared.states.HungList.{HungList}

@@ -14,7 +14,7 @@ use Rattle.machine.specs.declared.states.Worker.{Worker}
 use Rattle.machine.specs.State.{block, worker, with_worker, is_live, live_block}
 use Rattle.machine.specs.Moves.{Move}
 use Rattle.machine.specs.Turns.{is_idle}
-use Rattle.machine.specs.Calls.{is_worker, is_hold, is_cell, is_block, free, free_checks, take, look_checks, look, drop, joined, unlinked, try_due, retired, retiring, retire_checks, retire, relinked, relink_checks, relink}
+use Rattle.machine.specs.Calls.{is_worker, is_hold, is_cell, is_block, free, free_checks, take, look_checks, look, drop, joined, unlinked, try_due, retiring, retire_checks, retire, relinked, relink_checks, relink}
 use Rattle.machine.specs.Machine.{State, Step, stepped, answered, judged, write_checks, written, write, read_checks, found, read}
 use Rattle.machine.specs.Account.{nothing, trying, Account, put, noted, without_in, doing_of, Agrees}
 use Rattle.machine.proofs.Passing.{by_test, both_left, checked_keeps}

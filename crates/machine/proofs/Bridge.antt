@@ -26,7 +26,7 @@ use Rattle.machine.specs.Looking.{with_shown, with_list, with_own_era}
 use Rattle.machine.specs.Trying.{with_slot, with_under, hung_at, emptied, settled, try_last}
 use Rattle.machine.specs.Calls.{newest_of, first_count, retired_block, unlinked, with_batch, retired, disowned, relinked}
 use Rattle.machine.proofs.Passing.{by_test}
-use Rattle.machine.proofs.Sums.{upd, tot, is, Each, upd_same, upd_other, is_self}
+use Rattle.machine.proofs.Sums.{upd, Each, upd_same, upd_other}
 use Rattle.machine.proofs.Chains.{Chain}
 use Rattle.machine.proofs.Mirror.{view, same, retask, rebatch, relist, recount, reunder, enliven, give, give_all, join}
 

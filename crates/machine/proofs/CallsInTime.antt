@@ -1,17 +1,15 @@
 -- That the calls keep eras in order, and so does every run.
-use Rattle.std.proofs.Common.{◌≡◌, ℕ, zero, suc, ◌+◌, ◌-◌, ◌<◌, ◌≤◌, Bool, true, false, cond, ◌&&◌, eqb, ltb, List, [], ◌∷◌, get_or, Some, None, Option, sym, refl, subst, arith}
+use Rattle.std.proofs.Common.{◌≡◌, ℕ, ◌-◌, ◌<◌, ◌≤◌, true, ◌&&◌, ltb, get_or, Some, None, Option, subst, arith}
 use Rattle.std.proofs.lemmas.Bool.Decides.{nat_tests}
 use Rattle.figures.specs.declared.limits.Form.{Form}
 use Rattle.machine.specs.declared.states.Batch.{Batch}
-use Rattle.machine.specs.declared.states.Task.{Task}
-use Rattle.machine.specs.declared.states.Task.TheVariants.{Idle, TakeEra, LookCell, DropList, TryVisit}
+use Rattle.machine.specs.declared.states.Task.TheVariants.{TakeEra}
 use Rattle.machine.specs.declared.states.Core.{Core}
-use Rattle.machine.specs.State.{block, worker, with_task}
+use Rattle.machine.specs.State.{block, worker}
 use Rattle.machine.specs.Cells.{named_more, named_less, with_cell, held, home_block}
 use Rattle.machine.specs.Hands.{owns}
-use Rattle.machine.specs.Moves.{Move, goes_on, ends, checked}
-use Rattle.machine.specs.Calls.{is_worker, is_hold, is_cell, free_checks, take, look_checks, look, drop, joined, unlinked, try_due, with_batch, retired, retiring, retire_checks, retire, unowned, disowned, relinked, relink_checks, relink}
-use Rattle.machine.specs.Eras.{InTime, InOrder}
+use Rattle.machine.specs.Calls.{is_worker, is_hold, is_cell, free_checks, take, look_checks, look, drop, joined, unlinked, try_due, retired, retiring, retire_checks, retire, disowned, relinked, relink_checks, relink}
+use Rattle.machine.specs.Eras.{InOrder}
 use Rattle.machine.proofs.Passing.{by_test, both_left, both_right, checked_keeps}
 use Rattle.machine.proofs.Times.{Kept, live_kept, anchor_kept, block_kept, worker_kept, task_kept}
 

@@ -1,5 +1,5 @@
 -- That every call keeps batches, lists, walks and counts sound.
-use Rattle.std.proofs.Common.{◌≡◌, ℕ, ◌+◌, ◌-◌, ◌*◌, ◌<◌, ◌≤◌, Bool, true, false, cond, ◌&&◌, eqb, ltb, ◌≢◌, List, [], ◌∷◌, length, get_or, replicate, Some, None, Option, sym, refl, ap, ◌∙◌, subst, arith}
+use Rattle.std.proofs.Common.{◌≡◌, ℕ, ◌<◌, Bool, true, ◌&&◌, eqb, ltb, List, [], ◌∷◌, length, Some, None, Option, sym, refl, ap, ◌∙◌, subst, arith}
 use Rattle.std.proofs.lemmas.Bool.Decides.{nat_tests}
 use Rattle.figures.specs.Limits.{Fit}
 use Rattle.figures.specs.declared.limits.Form.{Form}
@@ -9,15 +9,15 @@ use Rattle.machine.specs.declared.states.Standing.TheVariants.{Pooled, Live, Ret
 use Rattle.machine.specs.declared.states.Task.{Task}
 use Rattle.machine.specs.declared.states.Task.TheVariants.{Idle, TakeEra, TakeBlock, LookCell, LookEra, LookList, LookWalk, LookAgain, LookWrite, DropList, DropWalk, DropEra, TryVisit, TryHang, TryLast}
 use Rattle.machine.specs.declared.states.Core.{Core}
-use Rattle.machine.specs.State.{is_live, live_block, block, worker, with_task}
+use Rattle.machine.specs.State.{is_live, block, worker}
 use Rattle.machine.specs.Account.{is_retired}
 use Rattle.machine.specs.Eras.{InOrder}
 use Rattle.machine.specs.Turns.{is_idle}
-use Rattle.machine.specs.Calls.{is_worker, is_hold, is_cell, is_block, free_checks, take, look_checks, look, drop, joined, newest_of, first_count, try_due, with_batch, retired, retiring, retire_checks, retire, relinked, relink_checks, relink}
+use Rattle.machine.specs.Calls.{is_worker, is_hold, is_cell, is_block, free_checks, take, look_checks, look, drop, joined, newest_of, first_count, try_due, with_batch, retired, retiring, retire_checks, retire, relink_checks, relink}
 use Rattle.machine.proofs.Passing.{by_test, both_left, both_right, checked_keeps}
 use Rattle.machine.proofs.Sums.{upd, tot, mark, is, upd_same}
 use Rattle.machine.proofs.Chains.{Chain, Ends, chain_upd, ends_more}
-use Rattle.machine.proofs.Mirror.{St, view, retask, rebatch, join}
+use Rattle.machine.proofs.Mirror.{view, retask, rebatch, join}
 use Rattle.machine.proofs.Sound.{Gh, Sound, Own, TaskRight, Alive, next, hung_of}
 use Rattle.machine.proofs.Sound as sound
 use Rattle.machine.proofs.Bridge.{Sized, sized_task, sized_shown, sized_worker, sized_batch, sized_retired, sized_relinked, view_task, view_shown, view_worker_task, view_batch, view_retired, view_relinked}

@@ -1,8 +1,8 @@
 -- How many blocks are retired at once: each is in a batch, and each batch is a worker's own or has a block on a list or a walk.
-use Rattle.std.proofs.Common.{◌≡◌, ℕ, zero, suc, ◌+◌, ◌-◌, ◌*◌, ◌<◌, ◌≤◌, Bool, ◌&&◌, eqb, List, [], ◌∷◌, length, Some, None, Option, sym, refl, ap, ◌∙◌, subst, mul_comm, add-mul, arith}
+use Rattle.std.proofs.Common.{◌≡◌, ℕ, zero, suc, ◌+◌, ◌*◌, ◌<◌, ◌≤◌, Bool, ◌&&◌, eqb, List, [], ◌∷◌, length, Some, None, Option, sym, refl, ap, ◌∙◌, subst, mul_comm, add-mul, arith}
 use native.Mathlib.Decide.{ℕ_discrete, dec_lt}
 use Rattle.std.proofs.lemmas.Nat.{mul-le}
-use Rattle.figures.specs.Ceiling.{ceiling, ceiling_of, list_most, batch_most}
+use Rattle.figures.specs.Ceiling.{ceiling_of, batch_most}
 use Rattle.figures.specs.Limits.{Fit}
 use Rattle.figures.specs.declared.limits.Form.{Form}
 use Rattle.figures.proofs.Ceilings.{counts_places}
@@ -21,7 +21,7 @@ use Rattle.machine.proofs.Owners.{slack}
 use Rattle.machine.proofs.StepsSound.{reservations, Good, few_places, retired_below, Σ-add, Σ-is}
 use Rattle.machine.proofs.ShortTurns.{counted, names_lead}
 use Rattle.machine.proofs.Potential.{Σ-most}
-use Rattle.machine.proofs.Loads.{most, Loads}
+use Rattle.machine.proofs.Loads.{Loads}
 
 -- double sums
 Σ-swap : (f : ℕ → ℕ → ℕ) (m n : ℕ) → Σ (λ i. Σ (λ j. f i j) n) m ≡ Σ (λ j. Σ (λ i. f i j) m) n

@@ -1,5 +1,5 @@
 -- That retired blocks stay below the ceiling in every run, and a pool with as many blocks as are needed is never dry.
-use Rattle.std.proofs.Common.{◌≡◌, ℕ, zero, suc, ◌+◌, ◌-◌, ◌<◌, ◌≤◌, Bool, true, false, eqb, ltb, List, [], ◌∷◌, length, get_or, replicate, Some, None, Ok, Err, Option, Result, sym, refl, ap, ◌∙◌, subst, arith}
+use Rattle.std.proofs.Common.{◌≡◌, ℕ, zero, suc, ◌+◌, ◌<◌, ◌≤◌, Bool, true, false, eqb, ltb, List, [], ◌∷◌, length, get_or, Some, None, Ok, Err, Option, Result, sym, refl, ap, ◌∙◌, subst, arith}
 use native.Mathlib.Decide.{ℕ_discrete}
 use Rattle.std.proofs.lemmas.Bool.Decides.{nat_tests}
 use Rattle.figures.specs.Ceiling.{needed_of}
@@ -26,7 +26,7 @@ use Rattle.machine.specs.Calls.{free_checks, take, look_checks, look, drop, join
 use Rattle.machine.specs.Cells.{home}
 use Rattle.machine.specs.CeilingKept.{retired_blocks, Hanging, Low, is_dry, NotDry, NeverDry, BelowCeiling}
 use Rattle.machine.specs.Eras.{InOrder}
-use Rattle.machine.specs.Living.{live_among, living}
+use Rattle.machine.specs.Living.{live_among}
 use Rattle.machine.specs.Looking.{readable, own_reservation, look_list}
 use Rattle.machine.specs.Machine.{State, Step, judged, write_checks, written, read_checks, found, told, after}
 use Rattle.machine.specs.Moves.{Move, checked, counted}
@@ -47,7 +47,7 @@ use Rattle.machine.proofs.StepsSound.{few_blocks, Σ-add}
 use Rattle.machine.proofs.RunsSound.{Whole, pooled_in, whole_after, made_whole}
 use Rattle.machine.proofs.Waiting.{head_is, next_is}
 use Rattle.machine.proofs.Potential.{shape, stage, emptied_hold, SlotsRight}
-use Rattle.machine.proofs.Loads.{most, pot_most}
+use Rattle.machine.proofs.Loads.{pot_most}
 use Rattle.machine.proofs.LoadsOfLooks.{Light, no_chain, no_hold}
 use Rattle.machine.proofs.LoadsOfCalls.{light_after}
 use Rattle.machine.proofs.CeilingCount.{list_short, walk_short, few_retired}

@@ -1,5 +1,5 @@
 -- Lists that are followed from one block to the next.
-use Rattle.std.proofs.Common.{◌≡◌, ℕ, zero, suc, ◌+◌, ◌<◌, ◌≤◌, ◌≢◌, List, [], ◌∷◌, length, Some, None, Option, sym, refl, ap, ◌∙◌, subst, arith}
+use Rattle.std.proofs.Common.{◌≡◌, ℕ, ◌≤◌, ◌≢◌, List, [], ◌∷◌, Some, None, Option, refl, subst, arith}
 use Rattle.machine.proofs.Sums.{upd, tot, is, upd_other, is_self}
 
 -- xs is what is met from o on by f

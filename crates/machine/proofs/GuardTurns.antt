@@ -7,7 +7,6 @@ use Rattle.std.proofs.lemmas.List.{get_or-set_same, get_or-set_other}
 use Rattle.figures.specs.Limits.{Fit}
 use Rattle.figures.specs.declared.limits.Form.{Form}
 use Rattle.pools.specs.Counts.{bit, tally}
-use Rattle.pools.specs.Meaning.{taken}
 use Rattle.pools.specs.declared.PoolFault.{PoolFault}
 use Rattle.pools.specs.CountsLemmas.{in_below}
 use Rattle.machine.specs.declared.states.Batch.{Batch}

@@ -1,19 +1,16 @@
 -- A turn of a try that hangs a block, or passes over it.
-use Rattle.std.proofs.Common.{◌≡◌, ℕ, zero, suc, ◌+◌, ◌-◌, ◌*◌, ◌<◌, ◌≤◌, Bool, true, false, cond, ◌&&◌, eqb, ltb, ◌≢◌, List, [], ◌∷◌, length, Some, None, Option, sym, refl, ap, ◌∙◌, subst, arith}
+use Rattle.std.proofs.Common.{◌≡◌, ℕ, suc, ◌+◌, ◌-◌, ◌*◌, ◌<◌, ◌≤◌, Bool, true, false, cond, eqb, ltb, ◌≢◌, List, [], ◌∷◌, length, Some, None, Option, sym, refl, ap, ◌∙◌, subst, arith}
 use native.Mathlib.Decide.{ℕ_discrete}
 use Rattle.machine.specs.declared.states.Batch.{Batch}
-use Rattle.machine.specs.declared.states.HungList.{HungList}
-use Rattle.machine.specs.declared.states.HungList.TheVariants.{Off, Empty, Newest}
-use Rattle.machine.specs.declared.states.Standing.{Standing}
-use Rattle.machine.specs.declared.states.Standing.TheVariants.{Pooled, Live, Retired}
+use Rattle.machine.specs.declared.states.HungList.TheVariants.{Off, Newest}
+use Rattle.machine.specs.declared.states.Standing.TheVariants.{Retired}
 use Rattle.machine.specs.declared.states.Task.{Task}
 use Rattle.machine.specs.declared.states.Task.TheVariants.{TryHang, TryLast}
 use Rattle.machine.proofs.Sums.{upd, Σ, tot, mark, is, upd_same, upd_other, is_self, is_other, Σ-term, Σ-upd, Σ-upd-at, Σ-upd₂-at, at_upd, at-upd₂}
-use Rattle.machine.proofs.Chains.{Chain, Ends, chain_upd, chain_some}
+use Rattle.machine.proofs.Chains.{Chain, chain_upd, chain_some}
 use Rattle.machine.proofs.Mirror.{St, retask, relist, reunder}
 use Rattle.machine.proofs.GiveKept.{marked}
-use Rattle.machine.proofs.Sound.{Gh, Sound, head, next, owns, hung_of, hung_for, due, due_of, of, on, to_hang, Lead, Own, TaskRight, Alive}
-use Rattle.machine.specs.Account.{is_retired}
+use Rattle.machine.proofs.Sound.{Gh, Sound, head, next, owns, hung_of, hung_for, due, due_of, of, on, to_hang, Lead, TaskRight, Alive}
 
 -- b hangs at place r, and bs is what worker w has still to come to
 abbrev pub push : Gh → ℕ → ℕ → ℕ → List ℕ → Gh

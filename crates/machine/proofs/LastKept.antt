@@ -1,14 +1,12 @@
 -- The last turn of a try: the batch leaves its worker, and its count is what hangs of it.
-use Rattle.std.proofs.Common.{◌≡◌, ℕ, zero, suc, ◌+◌, ◌-◌, ◌*◌, ◌<◌, ◌≤◌, Bool, true, false, cond, eqb, ◌≢◌, List, [], ◌∷◌, Some, None, Option, sym, refl, ap, ◌∙◌, subst, arith}
-use native.Mathlib.Decide.{ℕ_discrete}
+use Rattle.std.proofs.Common.{◌≡◌, ℕ, ◌+◌, ◌-◌, ◌*◌, ◌<◌, ◌≤◌, Some, None, sym, refl, ap, arith}
 use Rattle.machine.specs.declared.states.Batch.{Batch}
-use Rattle.machine.specs.declared.states.Task.{Task}
 use Rattle.machine.specs.declared.states.Task.TheVariants.{Idle, TryLast}
-use Rattle.machine.proofs.Sums.{upd, Σ, tot, mark, is, upd_same, upd_other, Σ-upd, Σ-upd₂, Σ-upd₂-at, at_upd, at-upd₂}
-use Rattle.machine.proofs.Chains.{Chain, Ends}
+use Rattle.machine.proofs.Sums.{upd, Σ, tot, is, upd_other, Σ-upd, Σ-upd₂, Σ-upd₂-at, at_upd, at-upd₂}
+use Rattle.machine.proofs.Chains.{Chain}
 use Rattle.machine.proofs.Mirror.{St, recount, rebatch}
-use Rattle.machine.proofs.Sound.{Gh, Sound, next, owns, hung_of, hung_for, due_of, of, on, to_hang, Lead, Own, TaskRight, Alive, AliveBut}
-use Rattle.machine.proofs.Owners.{owns_own, owns_other, slack_of, own_lead, own_chain}
+use Rattle.machine.proofs.Sound.{Gh, Sound, next, owns, hung_for, due_of, of, on, to_hang, Lead, Own, TaskRight, Alive, AliveBut}
+use Rattle.machine.proofs.Owners.{owns_other, slack_of, own_lead, own_chain}
 
 module _ (N R W : ℕ) (s : St) (g : Gh) (c : Sound N R W s g) (small : R ≤ 32) (w : ℕ) (hw : w < W) (hung : ℕ) (x : Batch) (e : s.task w ≡ TryLast hung) (eb : s.batch w ≡ Some x) where
   -- the state after it

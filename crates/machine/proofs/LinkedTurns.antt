@@ -4,7 +4,6 @@ use Rattle.std.proofs.lemmas.Bool.Decides.{nat_tests}
 use Rattle.std.proofs.lemmas.Bool.{false≢true}
 use Rattle.pools.specs.declared.PoolFault.{PoolFault}
 use Rattle.pools.specs.Counts.{tally}
-use Rattle.pools.specs.Meaning.{taken}
 use Rattle.machine.specs.declared.states.Batch.{Batch}
 use Rattle.machine.specs.declared.states.HungList.{HungList}
 use Rattle.machine.specs.declared.states.HungList.TheVariants.{Off, Empty, Newest}

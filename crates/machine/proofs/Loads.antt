@@ -3,19 +3,17 @@ use Rattle.std.proofs.Common.{◌≡◌, ℕ, zero, suc, ◌+◌, ◌-◌, ◌*�
 use native.Mathlib.Decide.{ℕ_discrete, dec_lt}
 use Rattle.figures.specs.Limits.{Fit}
 use Rattle.figures.specs.declared.limits.Form.{Form}
-use Rattle.machine.specs.declared.states.Block.{Block}
 use Rattle.machine.specs.declared.states.Task.{Task}
 use Rattle.machine.specs.declared.states.Task.TheVariants.{Idle, TakeEra, TakeBlock, LookCell, LookEra, LookList, LookWalk, LookAgain, LookWrite, DropList, DropWalk, DropEra, TryVisit, TryHang, TryLast}
 use Rattle.machine.specs.declared.states.Worker.{Worker}
 use Rattle.machine.specs.declared.states.Core.{Core}
-use Rattle.machine.specs.State.{fresh_reservation, block, worker, reservation}
+use Rattle.machine.specs.State.{fresh_reservation, worker, reservation}
 use Rattle.machine.specs.Eras.{InTime, InOrder}
 use Rattle.machine.specs.Living.{FewLive}
-use Rattle.machine.proofs.Sums.{Σ, is}
 use Rattle.machine.proofs.Chains.{Chain}
 use Rattle.machine.proofs.Sound.{head, next}
 use Rattle.machine.proofs.StepsSound.{reservations, place_below}
-use Rattle.machine.proofs.Potential.{Shape, shape, stage, emptied_hold, asks, weigh, SlotsRight, born, amount, pot, born_living, weigh_most, Σ-most, Σ-change-most}
+use Rattle.machine.proofs.Potential.{Shape, shape, stage, emptied_hold, weigh, SlotsRight, born, amount, pot, born_living, weigh_most, Σ-most, Σ-change-most}
 
 -- the most that the potential of a reservation can be
 abbrev pub most : Form → ℕ

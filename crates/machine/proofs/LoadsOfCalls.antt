@@ -1,5 +1,5 @@
 -- That every call keeps loads small.
-use Rattle.std.proofs.Common.{◌≡◌, ℕ, ◌+◌, ◌-◌, ◌<◌, ◌≤◌, min, Bool, true, false, cond, ◌&&◌, eqb, ltb, leb, List, length, get_or, set, Some, None, Option, sym, refl, ap, ◌∙◌, subst, arith}
+use Rattle.std.proofs.Common.{◌≡◌, ℕ, ◌+◌, ◌<◌, ◌≤◌, min, Bool, true, false, cond, ◌&&◌, eqb, ltb, leb, List, length, get_or, set, Some, None, Option, sym, refl, ap, ◌∙◌, subst, arith}
 use native.Mathlib.Decide.{dec_lt}
 use Rattle.std.proofs.lemmas.Bool.Decides.{nat_tests}
 use Rattle.figures.specs.Limits.{Fit}
@@ -13,7 +13,7 @@ use Rattle.machine.specs.declared.states.Task.{Task}
 use Rattle.machine.specs.declared.states.Task.TheVariants.{Idle, TakeEra, TakeBlock, LookCell, LookEra, LookList, LookWalk, LookAgain, LookWrite, DropList, DropWalk, DropEra, TryVisit, TryHang, TryLast}
 use Rattle.machine.specs.declared.states.Worker.{Worker}
 use Rattle.machine.specs.declared.states.Core.{Core}
-use Rattle.machine.specs.State.{fresh, fresh_reservation, blank_block, blank_worker, is_live, block, worker, reservation, with_block}
+use Rattle.machine.specs.State.{fresh_reservation, blank_block, blank_worker, is_live, block, worker, reservation, with_block}
 use Rattle.machine.specs.Account.{is_retired}
 use Rattle.machine.specs.Cells.{home, home_block, held, with_cell, named_more, named_less}
 use Rattle.machine.specs.Eras.{InTime, InOrder}
@@ -35,7 +35,7 @@ use Rattle.machine.proofs.Mirror.{view}
 use Rattle.machine.proofs.RunsInTime.{judged_same}
 use Rattle.machine.proofs.Sound.{Gh, Sound, Alive, head, next}
 use Rattle.machine.proofs.StepsSound.{reservations, Good, few_blocks, place_below}
-use Rattle.machine.proofs.Potential.{Shape, shape, shape_kept, same_shape, resting, stage, halfway, emptied_hold, aside_of, asks, coming, weigh, SlotsRight, born, amount, amount_less, amount_set}
+use Rattle.machine.proofs.Potential.{Shape, shape, shape_kept, same_shape, resting, stage, halfway, emptied_hold, aside_of, coming, SlotsRight, born, amount, amount_less, amount_set}
 use Rattle.machine.proofs.Loads.{Loads, same_weight, moved, quiet}
 use Rattle.machine.proofs.LoadsOfLooks.{Light, asking, weigh_below, no_chain, no_hold, set_others, set_here, retasked, plain, take_era_light, take_block_light, writes, look_list_light, look_on_light, drop_list_light, drop_on_light, drop_era_light}
 use Rattle.machine.proofs.LoadsOfTries.{not_aside, asking_elder, slots_elder, try_visit_light, try_hang_light, try_last_light}

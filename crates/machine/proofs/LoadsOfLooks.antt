@@ -24,10 +24,10 @@ use Rattle.machine.specs.Living.{FewLive}
 use Rattle.machine.specs.Moves.{Move}
 use Rattle.machine.specs.Taking.{next_count, counted_up, take_era, taken_block, took, take_block}
 use Rattle.machine.specs.Looking.{own_reservation, with_list, with_own_era, look_list, look_on}
-use Rattle.machine.specs.Dropping.{drop_task, drop_list, drop_on, drop_era}
+use Rattle.machine.specs.Dropping.{drop_task, drop_on, drop_era}
 use Rattle.machine.specs.Walking.{pooled, with_count, all_pooled, due, count_down, handled}
 use Rattle.machine.proofs.Passing.{by_test}
-use Rattle.machine.proofs.Sums.{upd, mark, is, upd_same, upd_other, at_upd}
+use Rattle.machine.proofs.Sums.{upd, mark, upd_same, upd_other, at_upd}
 use Rattle.machine.proofs.Chains.{Chain, chain_none}
 use Rattle.machine.proofs.Bridge.{Sized, field_kept}
 use Rattle.machine.proofs.Doings.{all_pooled_workers}

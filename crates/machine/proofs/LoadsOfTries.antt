@@ -22,7 +22,7 @@ use Rattle.machine.specs.Moves.{Move}
 use Rattle.machine.specs.Trying.{places, is_off, passed_over, hangings, with_slot, block_after, visited, try_visit, with_under, hung_at, hanged, hang_on, try_hang, settled, try_last}
 use Rattle.machine.specs.Walking.{with_count, all_pooled, due}
 use Rattle.machine.proofs.Passing.{by_test}
-use Rattle.machine.proofs.Sums.{upd, Σ, tot, mark, is, is_self, is_other, Σ-term, upd_same, upd_other, tot_on}
+use Rattle.machine.proofs.Sums.{upd, tot, mark, is, is_self, is_other, Σ-term, upd_same, upd_other, tot_on}
 use Rattle.machine.proofs.Chains.{Chain, chain_some, chain_upd}
 use Rattle.machine.proofs.Bridge.{Sized, field_kept, field_set}
 use Rattle.machine.proofs.Mirror.{view}
@@ -34,9 +34,9 @@ use Rattle.machine.proofs.VisitKept as visits
 use Rattle.machine.proofs.HangKept.{hang_info, hang_batch, hang_place, hang_next}
 use Rattle.machine.proofs.StepsSound.{reservations, few_places, few_blocks, place_below, retired_below}
 use Rattle.machine.proofs.ShortTurns.{names_lead, there_below}
-use Rattle.machine.proofs.Potential.{Shape, shape, shape_kept, same_shape, firsts, onward, firsts_more, onward_more, firsts_of, firsts_then, firsts_upd, onward_upd, Stage, resting, visiting, hanging, closing, stage, halfway, emptied_hold, aside_of, aimed, asks, coming, weigh, SlotsRight, born, amount, amount_less}
+use Rattle.machine.proofs.Potential.{Shape, shape, shape_kept, same_shape, firsts, onward, firsts_more, onward_more, firsts_of, firsts_then, firsts_upd, onward_upd, Stage, resting, visiting, hanging, closing, stage, halfway, emptied_hold, aside_of, aimed, asks, coming, weigh, SlotsRight, born, amount_less}
 use Rattle.machine.proofs.Loads.{Loads, same_weight, moved, quiet}
-use Rattle.machine.proofs.LoadsOfLooks.{Light, asking, weigh_below, weigh_less, no_chain, no_hold, there, set_others, set_here, shape_pooled, reservations_pooled, era_pooled, born_pooled}
+use Rattle.machine.proofs.LoadsOfLooks.{Light, asking, weigh_below, weigh_less, no_chain, no_hold, set_others, set_here, shape_pooled, reservations_pooled, era_pooled, born_pooled}
 
 -- another slot of a block that is none of these is not seen
 pub aimed_upd : (slot : ℕ → ℕ) (b v r : ℕ) (xs : List ℕ) → tot (is b) xs ≡ 0 → aimed (upd slot b v) r xs ≡ aimed slot r xs

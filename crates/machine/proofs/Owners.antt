@@ -1,11 +1,10 @@
 -- Which worker owns a batch, and how far its count is behind.
-use Rattle.std.proofs.Common.{◌≡◌, ℕ, zero, suc, ◌+◌, ◌-◌, ◌*◌, ◌<◌, ◌≤◌, Bool, true, false, cond, eqb, ◌≢◌, List, [], ◌∷◌, length, Some, None, Option, sym, refl, ap, ◌∙◌, subst, arith}
-use native.Mathlib.Decide.{ℕ_discrete}
+use Rattle.std.proofs.Common.{◌≡◌, ℕ, ◌*◌, ◌<◌, ◌≤◌, ◌≢◌, List, Some, None, Option, subst, arith}
 use Rattle.machine.specs.declared.states.Batch.{Batch}
 use Rattle.machine.specs.declared.states.Task.{Task}
 use Rattle.machine.specs.declared.states.Task.TheVariants.{Idle, TakeEra, TakeBlock, LookCell, LookEra, LookList, LookWalk, LookAgain, LookWrite, DropList, DropWalk, DropEra, TryVisit, TryHang, TryLast}
-use Rattle.machine.proofs.Sums.{Σ, tot, mark, is, Σ-two, Σ-32}
-use Rattle.machine.proofs.Chains.{Chain, Ends}
+use Rattle.machine.proofs.Sums.{Σ, Σ-two, Σ-32}
+use Rattle.machine.proofs.Chains.{Chain}
 use Rattle.machine.proofs.Mirror.{St}
 use Rattle.machine.proofs.Sound.{Gh, Sound, owns, hung_of, hung_for, TaskRight, Lead, Own}
 

@@ -1,13 +1,12 @@
 -- That every run keeps the structure of batches and cells.
-use Rattle.std.proofs.Common.{◌≡◌, ℕ, zero, suc, ◌+◌, ◌*◌, ◌<◌, ◌≤◌, Bool, true, false, cond, not, ◌&&◌, eqb, ltb, ◌≢◌, ◌⊎◌, List, [], ◌∷◌, length, get_or, set, replicate, Some, None, Ok, Err, Option, Result, sym, refl, ap, ◌∙◌, subst, inl, inr, arith, length-set, get_or-set_other, get_or-set_same}
-use native.Mathlib.Decide.{ℕ_discrete, dec_lt}
+use Rattle.std.proofs.Common.{◌≡◌, ℕ, ◌+◌, ◌*◌, ◌<◌, ◌≤◌, Bool, true, false, not, ◌&&◌, eqb, ltb, ◌≢◌, List, [], ◌∷◌, length, get_or, set, replicate, None, Ok, Err, Option, Result, sym, refl, ap, ◌∙◌, subst, inl, inr, arith, length-set, get_or-set_other, get_or-set_same}
+use native.Mathlib.Decide.{ℕ_discrete}
 use Rattle.std.proofs.lemmas.List.{get_or-replicate}
 use Rattle.std.proofs.lemmas.Bool.Decides.{nat_tests}
 use lib.ListN.{length-replicate}
-use Rattle.std.specs.List.{AllByRecursion as All}
 use Rattle.figures.specs.Limits.{Fit}
 use Rattle.figures.specs.declared.limits.Form.{Form}
-use Rattle.pools.specs.Counts.{bit, tally, times}
+use Rattle.pools.specs.Counts.{bit, times}
 use Rattle.pools.specs.Meaning.{is_out, gained}
 use Rattle.machine.specs.declared.calls.Call.{Call}
 use Rattle.machine.specs.declared.calls.Call.TheVariants.{Take, Look, Drop, Retire, Relink, Write, Read, Turn}
@@ -15,32 +14,28 @@ use Rattle.machine.specs.declared.refusals.Refusal.{Refusal}
 use Rattle.machine.specs.declared.states.Standing.{Standing}
 use Rattle.machine.specs.declared.states.Standing.TheVariants.{Pooled, Live, Retired}
 use Rattle.machine.specs.declared.states.Core.{Core}
-use Rattle.machine.specs.State.{block, worker, fresh, live_block, is_live, blank_block, fresh_block, blank_worker, fresh_worker, fresh_reservation}
-use Rattle.machine.specs.Moves.{Move, drawn, gained_all, gain, counted}
-use Rattle.machine.specs.Machine.{State, Reply, Step, judged, answered, write_checks, written, read_checks, found, told, stepped, after}
+use Rattle.machine.specs.State.{block, worker, fresh, is_live, blank_block, fresh_block, blank_worker, fresh_worker, fresh_reservation}
+use Rattle.machine.specs.Moves.{Move, drawn, gain, counted}
+use Rattle.machine.specs.Machine.{State, Step, judged, write_checks, written, read_checks, found, told, stepped, after}
 use Rattle.machine.specs.Runs.{Chosen, start}
-use Rattle.machine.specs.Trying.{places}
 use Rattle.machine.specs.Turns.{turn}
 use Rattle.machine.specs.Calls.{free_checks, take, look_checks, look, drop, joined, try_due, retiring, retire_checks, retire, relink_checks, relink}
 use Rattle.machine.specs.Eras.{InOrder}
 use Rattle.machine.specs.Linking.{LinkedRight}
-use Rattle.machine.specs.Living.{living, FewLive}
+use Rattle.machine.specs.Living.{FewLive}
 use Rattle.machine.proofs.LivingParts.{fresh_living}
 use Rattle.machine.proofs.LivingSteps.{living_after}
 use Rattle.machine.specs.BatchSizes.{batch_count, ShortBatches}
 use Rattle.machine.proofs.BatchCounts.{fresh_short}
 use Rattle.machine.proofs.ShortCalls.{short_after}
 use Rattle.machine.specs.Account.{Account, opened, noted, is_retired, Agrees}
-use Rattle.machine.specs.Batches.{Waits}
 use Rattle.machine.specs.Structure.{Handed, Throughout, Last, WholeBatch, Tells, GivesRight, Structured, StructureStands}
 use Rattle.machine.proofs.Passing.{by_test, checked_keeps}
 use Rattle.machine.proofs.Sums.{tot, mark, is, is_self}
 use Rattle.machine.proofs.Chains.{Ends}
-use Rattle.machine.proofs.Mirror.{St, view}
-use Rattle.machine.proofs.Sound.{Gh, Sound, Alive}
-use Rattle.machine.proofs.Sound as sound
+use Rattle.machine.proofs.Mirror.{view}
 use Rattle.machine.proofs.Owners.{slack}
-use Rattle.machine.proofs.Bridge.{Sized, sized_fresh}
+use Rattle.machine.proofs.Bridge.{sized_fresh}
 use Rattle.machine.proofs.TakeKept.{fresh_sound}
 use Rattle.machine.proofs.Waiting.{waits}
 use Rattle.machine.proofs.StepsSound.{reservations, Good, Leaves, few_places, few_blocks}
@@ -48,9 +43,9 @@ use Rattle.machine.proofs.StepsSound as steps
 use Rattle.machine.proofs.TurnsSound.{turn_sound, turn_gives}
 use Rattle.pools.specs.CountsLemmas.{in_below}
 use Rattle.machine.proofs.CallsSound.{take_sound, look_sound, drop_sound, retire_sound, relink_sound}
-use Rattle.machine.proofs.RunsInTime.{fresh_in_order, judged_same, after_kept}
+use Rattle.machine.proofs.RunsInTime.{fresh_in_order, after_kept}
 use Rattle.machine.proofs.LinkedParts.{Dead, fresh_linked}
-use Rattle.machine.proofs.LinkedRuns.{Side, takes, linked_after, takes_finds}
+use Rattle.machine.proofs.LinkedRuns.{Side, linked_after, takes_finds}
 use Rattle.machine.proofs.Standings.{is_pooled, AllRetired}
 use Rattle.machine.proofs.Sides.{PooledIn, Sides, out_below}
 use Rattle.machine.proofs.Stores.{replicate_all}

@@ -1,10 +1,8 @@
 -- What the agreement of a keeper with its account rests on.
-use Rattle.std.proofs.Common.{◌≡◌, ℕ, ◌<◌, ◌≤◌, Bool, true, false, List, [], ◌∷◌, length, get_or, refl, ◌∙◌, ⊎_elim, arith, length-set}
+use Rattle.std.proofs.Common.{◌≡◌, ℕ, ◌<◌, ◌≤◌, Bool, true, false, List, length, get_or, ⊎_elim, arith}
 use Rattle.std.proofs.lemmas.Bool.{cases_lt}
-use Rattle.pools.specs.Meaning.{gained}
 use Rattle.machine.specs.declared.states.Core.{Core}
 use Rattle.machine.specs.State.{block}
-use Rattle.machine.specs.Moves.{gained_all}
 use Rattle.machine.specs.Machine.{Step}
 use Rattle.machine.specs.Runs.{Chosen}
 use Rattle.machine.proofs.Standings.{is_pooled, AllRetired}

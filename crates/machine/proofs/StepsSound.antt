@@ -1,5 +1,5 @@
 -- That every step of a task keeps batches, lists, walks and counts sound.
-use Rattle.std.proofs.Common.{◌≡◌, ℕ, zero, suc, ◌+◌, ◌-◌, ◌*◌, ◌<◌, ◌≤◌, Bool, true, false, cond, ◌&&◌, eqb, ltb, ◌≢◌, ◌⊎◌, List, [], ◌∷◌, length, get_or, set, Some, None, Option, sym, refl, ap, ◌∙◌, subst, inl, inr, mul_comm, arith, length-set}
+use Rattle.std.proofs.Common.{◌≡◌, ℕ, zero, suc, ◌+◌, ◌-◌, ◌*◌, ◌<◌, ◌≤◌, Bool, true, false, cond, ◌&&◌, eqb, ◌≢◌, ◌⊎◌, List, [], ◌∷◌, length, Some, None, Option, sym, refl, ap, ◌∙◌, subst, inl, inr, mul_comm, arith}
 use native.Mathlib.Decide.{ℕ_discrete, dec_lt}
 use Rattle.std.proofs.lemmas.Nat.{mul-le, mul-add-lt}
 use Rattle.std.proofs.lemmas.Bool.Decides.{nat_tests}
@@ -7,24 +7,23 @@ use Rattle.figures.specs.Limits.{Fit}
 use Rattle.figures.specs.declared.limits.Form.{Form}
 use Rattle.machine.specs.declared.states.Batch.{Batch}
 use Rattle.machine.specs.declared.states.HungList.{HungList}
-use Rattle.machine.specs.declared.states.HungList.TheVariants.{Off, Empty, Newest}
-use Rattle.machine.specs.declared.states.Standing.TheVariants.{Pooled, Live, Retired}
+use Rattle.machine.specs.declared.states.Standing.TheVariants.{Retired}
 use Rattle.machine.specs.declared.states.Task.{Task}
-use Rattle.machine.specs.declared.states.Task.TheVariants.{Idle, TakeEra, TakeBlock, LookCell, LookEra, LookList, LookWalk, LookAgain, LookWrite, DropList, DropWalk, DropEra, TryVisit, TryHang, TryLast}
+use Rattle.machine.specs.declared.states.Task.TheVariants.{Idle, TryLast}
 use Rattle.machine.specs.declared.states.Core.{Core}
-use Rattle.machine.specs.State.{block, worker, reservation, place_of, with_task, idle}
+use Rattle.machine.specs.State.{block, worker, reservation, place_of, with_task}
 use Rattle.machine.specs.Moves.{Move, drawn, gained_all}
 use Rattle.machine.specs.Looking.{with_list}
-use Rattle.machine.specs.Walking.{members, all_pooled, due, count_down, handled}
+use Rattle.machine.specs.Walking.{due, count_down, handled}
 use Rattle.machine.specs.Structure.{Follow}
 use Rattle.machine.proofs.Passing.{by_test}
-use Rattle.machine.proofs.Sums.{upd, Σ, tot, mark, is, is_self, Each, Σ-cong, Σ-zero, Σ-term, Σ-change, is_other, each_of, upd_same}
+use Rattle.machine.proofs.Sums.{upd, Σ, tot, mark, is, is_self, Each, Σ-zero, Σ-change, is_other, each_of, upd_same}
 use Rattle.machine.proofs.Chains.{Chain, Ends}
-use Rattle.machine.proofs.Mirror.{St, view, retask, rebatch, recount, give, give_all}
+use Rattle.machine.proofs.Mirror.{St, view, retask, rebatch, give, give_all}
 use Rattle.machine.proofs.Sound.{Gh, Sound, TaskRight, Alive, AliveBut, Lead, head, next, hung_of, due_of, owns}
 use Rattle.machine.specs.Account.{is_retired}
 use Rattle.machine.proofs.Sound as sound
-use Rattle.machine.proofs.Bridge.{view_settled, sized_settled, sized_emptied, due_count_down, due_settled, view_handled, view_last, view_took, Sized, sized_task, sized_all_pooled, sized_count_down, sized_list, view_task, view_list, view_count_down, view_all_pooled, gained_all_long, members_of}
+use Rattle.machine.proofs.Bridge.{view_settled, sized_settled, sized_emptied, due_count_down, due_settled, view_handled, view_last, Sized, sized_task, sized_all_pooled, sized_count_down, sized_list, view_task, view_list, view_count_down, gained_all_long}
 use Rattle.machine.proofs.TaskKept.{retask_kept, detach_kept, due_of_same}
 use Rattle.machine.proofs.WalkKept.{walk_keeps}
 use Rattle.machine.specs.Trying.{settled, try_last}

@@ -7,7 +7,7 @@ use Rattle.machine.specs.declared.states.Standing.TheVariants.{Pooled, Live, Ret
 use Rattle.machine.specs.declared.states.Task.TheVariants.{Idle}
 use Rattle.machine.proofs.Sums.{upd, Σ, tot, mark, is, Σ-cong, Σ-zero, at_upd, at-upd₂}
 use Rattle.machine.proofs.Mirror.{St, enliven}
-use Rattle.machine.proofs.Sound.{Gh, Sound, Alive, Lead, Own, TaskRight, head, next, owns, due_of, on, to_hang}
+use Rattle.machine.proofs.Sound.{Gh, Sound, Alive, Lead, Own, TaskRight, head, next, owns, due_of, to_hang}
 use Rattle.machine.proofs.Standings.{is_pooled}
 use Rattle.machine.specs.Account.{is_retired}
 

@@ -1,5 +1,5 @@
 -- That another task of a worker keeps batches, lists and walks sound: in place, and when it takes a list over for a walk.
-use Rattle.std.proofs.Common.{◌≡◌, ℕ, ◌+◌, ◌*◌, ◌<◌, ◌≤◌, Bool, true, false, cond, eqb, ◌≢◌, List, [], ◌∷◌, Some, None, Option, sym, refl, ap, ◌∙◌, subst, arith}
+use Rattle.std.proofs.Common.{◌≡◌, ℕ, ◌<◌, ◌≤◌, cond, eqb, List, [], Some, None, Option, refl, ap, ◌∙◌, subst, arith}
 use Rattle.machine.specs.declared.states.Batch.{Batch}
 use Rattle.machine.specs.declared.states.HungList.{HungList}
 use Rattle.machine.specs.declared.states.HungList.TheVariants.{Off}
@@ -7,7 +7,7 @@ use Rattle.machine.specs.declared.states.Task.{Task}
 use Rattle.machine.proofs.Sums.{upd, Σ, tot, is, Σ-cong, Σ-change, Σ-upd, upd_same, upd_other, at_upd, at-upd₂}
 use Rattle.machine.proofs.Chains.{Chain, chain_none}
 use Rattle.machine.proofs.Mirror.{St, retask, relist}
-use Rattle.machine.proofs.Sound.{Gh, Sound, TaskRight, Alive, head, next, hung_of, hung_for, due, due_of, on, of, to_hang, owns}
+use Rattle.machine.proofs.Sound.{Gh, Sound, TaskRight, head, next, hung_of, hung_for, due, due_of, on, of, to_hang}
 
 -- how many are hung depends on a task only by that
 pub hung_for_same : (l : ℕ) (x : Option Batch) (t u : Task) → hung_of t ≡ hung_of u → hung_for l x t ≡ hung_for l x u

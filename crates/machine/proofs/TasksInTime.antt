@@ -1,5 +1,5 @@
 -- That the steps of looking, dropping and trying keep eras in order.
-use Rattle.std.proofs.Common.{◌≡◌, ℕ, ◌+◌, ◌-◌, ◌<◌, ◌≤◌, Bool, true, false, cond, eqb, ltb, List, [], ◌∷◌, set, Some, None, Option, sym, refl, ap, subst, arith}
+use Rattle.std.proofs.Common.{ℕ, ◌+◌, ◌<◌, ◌≤◌, Bool, eqb, ltb, List, Some, None, Option, subst, arith}
 use Rattle.std.proofs.lemmas.Bool.Decides.{nat_tests}
 use Rattle.figures.specs.declared.limits.Form.{Form}
 use Rattle.machine.specs.declared.states.Batch.{Batch}
@@ -10,9 +10,9 @@ use Rattle.machine.specs.declared.states.Task.TheVariants.{Idle, TakeEra, TakeBl
 use Rattle.machine.specs.declared.states.Core.{Core}
 use Rattle.machine.specs.State.{block, worker, reservation, place_of}
 use Rattle.machine.specs.Cells.{home}
-use Rattle.machine.specs.Looking.{readable, own_reservation, with_list, with_own_era, look_cell, look_era, look_list, look_on, look_walk, look_again, look_write}
-use Rattle.machine.specs.Dropping.{drop_task, drop_list, drop_on, drop_walk, drop_era}
-use Rattle.machine.specs.Trying.{hangings, visited, aside_for, passed_over, places, try_visit, hanged, hang_on, hung_at, try_hang, settled, try_last}
+use Rattle.machine.specs.Looking.{readable, own_reservation, with_list, with_own_era, look_cell, look_era, look_list, look_on}
+use Rattle.machine.specs.Dropping.{drop_task, drop_on, drop_era}
+use Rattle.machine.specs.Trying.{hangings, visited, passed_over, places, try_visit, hanged, hang_on, hung_at, try_hang, settled, try_last}
 use Rattle.machine.specs.Turns.{turn_checks, step, turn}
 use Rattle.machine.specs.Walking.{due}
 use Rattle.machine.specs.Eras.{InTime, InOrder}

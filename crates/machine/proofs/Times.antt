@@ -1,24 +1,19 @@
 -- That eras stay in order, step by step.
-use Rattle.std.proofs.Common.{◌≡◌, ℕ, zero, suc, ◌+◌, ◌-◌, ◌<◌, ◌≤◌, Bool, true, false, cond, eqb, ltb, List, [], ◌∷◌, get_or, set, Some, None, Ok, Err, Option, Result, sym, refl, ap, subst, arith}
+use Rattle.std.proofs.Common.{◌≡◌, ℕ, ◌+◌, ◌<◌, ◌≤◌, Bool, eqb, ltb, List, [], ◌∷◌, Ok, Err, Option, Result, sym, refl, subst, arith}
 use Rattle.std.proofs.lemmas.Bool.Decides.{nat_tests}
 use Rattle.figures.specs.declared.limits.Form.{Form}
 use Rattle.pools.specs.declared.PoolFault.{PoolFault}
 use Rattle.pools.specs.Meaning.{taken}
-use Rattle.machine.specs.declared.refusals.Refusal.{Refusal}
-use Rattle.machine.specs.declared.states.Batch.{Batch}
 use Rattle.machine.specs.declared.states.Block.{Block}
-use Rattle.machine.specs.declared.states.HungList.{HungList}
-use Rattle.machine.specs.declared.states.HungList.TheVariants.{Off, Empty, Newest}
 use Rattle.machine.specs.declared.states.Reservation.{Reservation}
 use Rattle.machine.specs.declared.states.Task.{Task}
 use Rattle.machine.specs.declared.states.Task.TheVariants.{Idle, TakeEra, TakeBlock, LookCell, LookEra, LookList, LookWalk, LookAgain, LookWrite, DropList, DropWalk, DropEra, TryVisit, TryHang, TryLast}
 use Rattle.machine.specs.declared.states.Worker.{Worker}
 use Rattle.machine.specs.declared.states.Core.{Core}
-use Rattle.machine.specs.State.{blank_block, blank_worker, fresh_reservation, block, worker, reservation, place_of, with_era, with_live, with_anchor, with_block, with_reservation, with_worker, with_task, idle}
-use Rattle.machine.specs.Cells.{named_more, named_less, with_cell, home_block, home_link, with_link, with_names}
+use Rattle.machine.specs.State.{blank_block, blank_worker, fresh_reservation, block, worker, with_era, with_live, with_anchor, with_block, with_reservation, with_worker, with_task, idle}
 use Rattle.machine.specs.Moves.{Move}
-use Rattle.machine.specs.Taking.{next_count, counted_up, take_era, taken_block, took, take_block}
-use Rattle.machine.specs.Walking.{pooled, all_pooled, with_count, due, count_down, handled}
+use Rattle.machine.specs.Taking.{next_count, counted_up, take_era, took, take_block}
+use Rattle.machine.specs.Walking.{pooled, all_pooled, due, count_down, handled}
 use Rattle.machine.specs.Eras.{InTime, InOrder}
 use Rattle.machine.proofs.Stores.{set_keeps}
 use Rattle.machine.proofs.Passing.{by_test}

@@ -1,7 +1,5 @@
 -- That every turn keeps batches, lists, walks and counts sound.
-use Rattle.std.proofs.Common.{◌≡◌, ℕ, ◌+◌, ◌-◌, ◌*◌, ◌<◌, ◌≤◌, Bool, true, false, cond, eqb, ltb, ◌≢◌, List, [], ◌∷◌, length, get_or, set, Some, None, Ok, Err, Option, Result, unwrap_or, sym, refl, ap, ◌∙◌, subst, inl, inr, arith, length-set}
-use native.Mathlib.Decide.{ℕ_discrete, dec_lt}
-use Rattle.std.proofs.lemmas.List.{get_or_past}
+use Rattle.std.proofs.Common.{◌≡◌, ℕ, ◌+◌, ◌-◌, ◌*◌, ◌<◌, Bool, true, false, cond, eqb, ltb, ◌≢◌, List, [], ◌∷◌, length, Some, None, Ok, Err, Option, Result, unwrap_or, sym, refl, ap, ◌∙◌, subst, inl, arith, length-set}
 use Rattle.std.proofs.lemmas.Bool.Decides.{nat_tests}
 use Rattle.figures.specs.Limits.{Fit}
 use Rattle.figures.specs.declared.limits.Form.{Form}
@@ -12,29 +10,28 @@ use Rattle.pools.specs.declared.PoolFault.{PoolFault}
 use Rattle.machine.specs.declared.states.Batch.{Batch}
 use Rattle.machine.specs.declared.states.HungList.{HungList}
 use Rattle.machine.specs.declared.states.HungList.TheVariants.{Off, Empty, Newest}
-use Rattle.machine.specs.declared.states.Standing.TheVariants.{Retired}
 use Rattle.machine.specs.declared.states.Task.{Task}
 use Rattle.machine.specs.declared.states.Task.TheVariants.{Idle, TakeEra, TakeBlock, LookCell, LookEra, LookList, LookWalk, LookAgain, LookWrite, DropList, DropWalk, DropEra, TryVisit, TryHang, TryLast}
 use Rattle.machine.specs.declared.states.Core.{Core}
-use Rattle.machine.specs.State.{block, worker, reservation, with_era, with_block, with_task, idle}
+use Rattle.machine.specs.State.{block, worker, reservation, with_era, with_task}
 use Rattle.machine.specs.Cells.{home, held}
 use Rattle.machine.specs.Runs.{Chosen}
 use Rattle.machine.specs.Moves.{Move}
-use Rattle.machine.specs.Taking.{counted_up, take_era, took, take_block}
-use Rattle.machine.specs.Looking.{readable, own_reservation, with_own_era, with_shown, look_cell, look_era, look_list, look_on, look_walk}
-use Rattle.machine.specs.Dropping.{drop_task, drop_list, drop_on, drop_walk, drop_era}
-use Rattle.machine.specs.Trying.{places, passed_over, with_slot, block_after, visited, aside_for, try_visit, hung_at, hanged, hang_on, try_hang, try_last}
+use Rattle.machine.specs.Taking.{take_era, took, take_block}
+use Rattle.machine.specs.Looking.{readable, own_reservation, with_own_era, look_list, look_on}
+use Rattle.machine.specs.Dropping.{drop_list, drop_on, drop_era}
+use Rattle.machine.specs.Trying.{passed_over, with_slot, block_after, visited, try_visit, hung_at, hanged, hang_on, try_hang, try_last}
 use Rattle.machine.specs.Walking.{handled}
 use Rattle.machine.specs.Turns.{turn_checks, step, turn}
 use Rattle.machine.specs.Eras.{InTime, InOrder}
 use Rattle.machine.proofs.Passing.{by_test, checked_keeps}
 use Rattle.machine.proofs.Sums.{upd, tot}
-use Rattle.machine.proofs.Mirror.{St, view, retask, relist, reunder}
+use Rattle.machine.proofs.Mirror.{view, retask, relist, reunder}
 use Rattle.machine.proofs.Sound.{Gh, Sound, TaskRight, Alive, head, next, hung_of}
 use Rattle.machine.proofs.Sound as sound
 use Rattle.machine.proofs.Bridge.{sized_live, Sized, sized_task, sized_era, sized_block, sized_own_era, sized_counted_up, sized_shown, sized_hung_at, view_task, view_slot, view_own_era, view_counted_up, view_shown, view_hung_at, view_took}
 use Rattle.machine.proofs.TaskKept.{retask_kept, due_of_same}
-use Rattle.machine.proofs.VisitKept.{visited_of, passed_kept, failed_kept, aside_kept}
+use Rattle.machine.proofs.VisitKept.{visited_of, passed_kept, aside_kept}
 use Rattle.machine.proofs.HangKept.{hang_info, hang_batch, hang_place, hang_next, hang_follows, skip_sound, hang_sound}
 use Rattle.machine.proofs.TakeKept.{take_kept}
 use Rattle.machine.proofs.StepsSound.{reservations, Good, WholeBatch, Leaves, few_workers, few_places, few_blocks, seen_as, retasks, detaches, retired_below, handles, lasts}

@@ -1,5 +1,5 @@
 -- That the visits of a try keep batches, lists and walks sound.
-use Rattle.std.proofs.Common.{◌≡◌, ℕ, suc, ◌+◌, ◌*◌, ◌<◌, ◌≤◌, Bool, true, false, cond, eqb, ltb, ◌≢◌, List, [], ◌∷◌, length, Some, None, Option, sym, refl, ap, ◌∙◌, subst, arith}
+use Rattle.std.proofs.Common.{◌≡◌, ℕ, ◌+◌, ◌<◌, ◌≤◌, cond, eqb, ltb, ◌≢◌, List, [], ◌∷◌, length, Some, None, Option, sym, refl, ap, ◌∙◌, subst, arith}
 use Rattle.std.proofs.lemmas.Bool.Decides.{nat_tests}
 use Rattle.machine.specs.declared.states.Batch.{Batch}
 use Rattle.machine.specs.declared.states.Task.{Task}
@@ -10,7 +10,7 @@ use Rattle.machine.proofs.Sums.{upd, tot, is}
 use Rattle.machine.proofs.Chains.{Chain, Ends, chain_some, ends_rest}
 use Rattle.machine.proofs.Mirror.{St, retask}
 use Rattle.machine.proofs.Sound.{Gh, Sound, Own, TaskRight, next, hung_of, due, due_of}
-use Rattle.machine.proofs.TaskKept.{retask_kept, moved_on}
+use Rattle.machine.proofs.TaskKept.{retask_kept}
 
 -- a list with a last entry is not empty
 pub ends_some : (l : ℕ) (xs : List ℕ) → Ends l xs → 1 ≤ length xs

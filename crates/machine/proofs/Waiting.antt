@@ -1,21 +1,19 @@
 -- From the clauses to where a retired block waits.
-use Rattle.std.proofs.Common.{◌≡◌, ℕ, suc, ◌+◌, ◌*◌, ◌<◌, ◌≤◌, Bool, true, false, cond, eqb, ◌⊎◌, List, [], ◌∷◌, Some, None, Option, sym, refl, ap, ◌∙◌, subst, inl, inr, arith}
+use Rattle.std.proofs.Common.{◌≡◌, ℕ, ◌*◌, ◌<◌, ◌≤◌, Bool, List, [], ◌∷◌, Some, None, Option, sym, refl, subst, inl, inr, arith}
 use native.Mathlib.Decide.{ℕ_discrete}
-use Rattle.std.proofs.lemmas.Bool.Decides.{nat_tests}
 use Rattle.machine.specs.declared.states.Batch.{Batch}
 use Rattle.machine.specs.declared.states.HungList.{HungList}
 use Rattle.machine.specs.declared.states.HungList.TheVariants.{Off, Empty, Newest}
-use Rattle.machine.specs.declared.states.Standing.TheVariants.{Retired}
 use Rattle.machine.specs.declared.states.Task.{Task}
 use Rattle.machine.specs.declared.states.Task.TheVariants.{Idle, TakeEra, TakeBlock, LookCell, LookEra, LookList, LookWalk, LookAgain, LookWrite, DropList, DropWalk, DropEra, TryVisit, TryHang, TryLast}
 use Rattle.machine.specs.declared.states.Core.{Core}
 use Rattle.machine.specs.State.{block, worker, reservation}
 use Rattle.machine.specs.Trying.{places}
-use Rattle.machine.specs.Batches.{newest_on, walking, Met, here, there, Hangs, OwnBatch, Waits}
-use Rattle.machine.proofs.Sums.{Σ, tot, mark, is, is_self, Σ-some, Σ-term}
+use Rattle.machine.specs.Batches.{newest_on, walking, Met, here, there, Hangs, Waits}
+use Rattle.machine.proofs.Sums.{Σ, tot, is, is_self, Σ-some, Σ-term}
 use Rattle.machine.proofs.Chains.{Chain}
-use Rattle.machine.proofs.Mirror.{St, view}
-use Rattle.machine.proofs.Sound.{Gh, Sound, Alive, Lead, head, next, owns, hung_for, on, of}
+use Rattle.machine.proofs.Mirror.{view}
+use Rattle.machine.proofs.Sound.{Gh, Sound, Alive, head, next, owns, hung_for, on, of}
 
 -- an entry that has a weight
 pub tot_some : (p : ℕ → ℕ) (xs : List ℕ) → 1 ≤ tot p xs → (c : ℕ) × (1 ≤ tot (is c) xs) × (1 ≤ p c)

@@ -1,5 +1,5 @@
 -- Where a retired block waits.
-use Rattle.std.specs.Prelude.{◌≡◌, ℕ, ◌*◌, ◌<◌, ◌⊎◌, Some, None, Option}
+use Rattle.std.specs.Prelude.{◌≡◌, ℕ, ◌<◌, ◌⊎◌, Some, None, Option}
 use Rattle.machine.specs.declared.states.Batch.{Batch}
 use Rattle.machine.specs.declared.states.HungList.{HungList}
 use Rattle.machine.specs.declared.states.HungList.TheVariants.{Off, Empty, Newest}

@@ -1,7 +1,7 @@
 -- Each call but the turn: its checks in their order, and what it does where all are passed.
-use Rattle.std.specs.Prelude.{ℕ, ◌+◌, ◌-◌, ◌%◌, min, Bool, true, false, cond, not, ◌&&◌, List, [], ◌∷◌, length, replicate, Some, None, Option, ◌==◌, nat_lt, slice_index_or, slice_set}
+use Rattle.std.specs.Prelude.{ℕ, ◌-◌, ◌%◌, min, Bool, true, false, cond, not, ◌&&◌, List, [], ◌∷◌, replicate, Some, None, Option, ◌==◌, nat_lt, slice_index_or, slice_set}
 use Rattle.machine.specs.declared.refusals.Refusal.{Refusal}
-use Rattle.machine.specs.declared.refusals.Refusal.TheVariants.{Misfit, Stranger, Busy, OutOfHand, Withdrawn, Linked, SelfLink, Moved}
+use Rattle.machine.specs.declared.refusals.Refusal.TheVariants.{Stranger, Busy, OutOfHand, Withdrawn, Linked, SelfLink, Moved}
 use Rattle.machine.specs.declared.states.Standing.TheVariants.{Retired}
 use Rattle.machine.specs.declared.states.Batch.{Batch}
 use Rattle.machine.specs.declared.states.Block.{Block}
@@ -11,7 +11,7 @@ use Rattle.machine.specs.declared.states.Task.TheVariants.{Idle, TakeEra, LookCe
 use Rattle.machine.specs.declared.states.Core.{Core}
 use Rattle.machine.specs.State.{one_more, blank_block, block, worker, with_live, with_block, with_worker, with_task, live_block}
 use Rattle.machine.specs.Cells.{cells, home, held, with_cell, named_more, named_less, same_content}
-use Rattle.machine.specs.Hands.{owns, in_hand, in_hand_without, shown}
+use Rattle.machine.specs.Hands.{owns, in_hand, in_hand_without}
 use Rattle.machine.specs.Looking.{with_shown}
 use Rattle.machine.specs.Moves.{Move, goes_on, ends, checked}
 use Rattle.machine.specs.Turns.{is_idle}

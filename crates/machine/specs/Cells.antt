@@ -1,5 +1,5 @@
 -- The cells: sixteen anchors, then two links of each block.
-use Rattle.std.specs.Prelude.{ℕ, ◌+◌, ◌-◌, ◌*◌, ◌/◌, ◌%◌, Bool, true, false, cond, List, Some, None, Option, ◌==◌, nat_lt, slice_index_or, slice_set}
+use Rattle.std.specs.Prelude.{ℕ, ◌+◌, ◌-◌, ◌*◌, ◌/◌, ◌%◌, Bool, true, false, cond, Some, None, Option, ◌==◌, nat_lt, slice_index_or, slice_set}
 use Rattle.machine.specs.declared.states.Block.{Block}
 use Rattle.machine.specs.declared.states.Core.{Core}
 use Rattle.machine.specs.State.{block, with_block, with_anchor, one_more}

@@ -1,5 +1,5 @@
 -- The worked examples: one table of calls and the lines that they print, and what the keeper is then.
-use Rattle.std.specs.Prelude.{◌≡◌, ℕ, true, false, List, [], ◌∷◌, ◌++◌, map, replicate, Some, None, Ok, Err, Option, Result}
+use Rattle.std.specs.Prelude.{◌≡◌, ℕ, true, false, List, [], ◌∷◌, ◌++◌, map, replicate, Some, None, Ok, Err, Result}
 use Rattle.std.specs.List.{range_with_len}
 use Rattle.figures.specs.declared.limits.Form.{Form}
 use Rattle.records.specs.declared.readings.Reading.{Reading}

@@ -1,5 +1,5 @@
 -- Which blocks are in a worker's hand.
-use Rattle.std.specs.Prelude.{ℕ, Bool, true, false, ◌||◌, List, [], ◌∷◌, Some, None, Option, slice_index_or, slice_set}
+use Rattle.std.specs.Prelude.{ℕ, Bool, false, ◌||◌, List, [], ◌∷◌, None, Option, slice_index_or, slice_set}
 use Rattle.machine.specs.declared.states.Core.{Core}
 use Rattle.machine.specs.State.{block, worker}
 use Rattle.machine.specs.Cells.{names_it}

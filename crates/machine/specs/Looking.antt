@@ -1,5 +1,5 @@
 -- Looking at a cell: five steps, with a walk between the third and the fourth.
-use Rattle.std.specs.Prelude.{ℕ, Bool, true, false, cond, not, List, Some, None, Option, ◌==◌, slice_set}
+use Rattle.std.specs.Prelude.{ℕ, Bool, true, cond, Some, None, Option, ◌==◌, slice_set}
 use Rattle.machine.specs.declared.refusals.Refusal.TheVariants.{Withdrawn}
 use Rattle.machine.specs.declared.states.HungList.{HungList}
 use Rattle.machine.specs.declared.states.HungList.TheVariants.{Off, Empty, Newest}

@@ -1,5 +1,5 @@
 -- The keeper as a whole: its making, and what every call does to it, its pool and the record table.
-use Rattle.std.specs.Prelude.{ℕ, Bool, true, false, cond, ◌&&◌, List, [], ◌∷◌, length, is_some, Some, None, Ok, Err, Option, Result, ◌==◌, nat_le, slice_set}
+use Rattle.std.specs.Prelude.{ℕ, Bool, false, cond, ◌&&◌, List, [], ◌∷◌, length, is_some, Some, None, Ok, Err, Option, Result, ◌==◌, nat_le, slice_set}
 use Rattle.std.specs.List.{slice_get}
 use Rattle.std.specs.Option.{option_map}
 use Rattle.figures.specs.declared.limits.Form.{Form}
@@ -18,7 +18,7 @@ use Rattle.machine.specs.declared.refusals.Refusal.TheVariants.{Misfit, Stranger
 use Rattle.machine.specs.declared.states.Core.{Core}
 use Rattle.machine.specs.State.{fresh}
 use Rattle.machine.specs.Hands.{owns, shown}
-use Rattle.machine.specs.Moves.{Move, Outcome, over}
+use Rattle.machine.specs.Moves.{Move, over}
 use Rattle.machine.specs.Turns.{turn}
 use Rattle.machine.specs.Calls.{is_worker, is_hold, is_block, free, take, look, drop, retire, relink}
 

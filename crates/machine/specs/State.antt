@@ -1,13 +1,11 @@
 -- The parts of a keeper: what they are at the making, where each is found, and one of them replaced.
-use Rattle.std.specs.Prelude.{ℕ, ◌+◌, ◌*◌, min, Bool, true, false, List, [], ◌∷◌, replicate, Some, None, Option, slice_index_or, slice_set}
+use Rattle.std.specs.Prelude.{ℕ, ◌+◌, ◌*◌, min, Bool, true, false, [], ◌∷◌, replicate, None, Option, slice_index_or, slice_set}
 use Rattle.figures.specs.declared.limits.Form.{Form}
 use Rattle.machine.specs.declared.states.Standing.{Standing}
 use Rattle.machine.specs.declared.states.Standing.TheVariants.{Pooled, Live, Retired}
 use Rattle.machine.specs.declared.states.Block.{Block}
-use Rattle.machine.specs.declared.states.BlockTable.{BlockTable}
 use Rattle.machine.specs.declared.states.HungList.TheVariants.{Off}
 use Rattle.machine.specs.declared.states.Reservation.{Reservation}
-use Rattle.machine.specs.declared.states.Batch.{Batch}
 use Rattle.machine.specs.declared.states.Task.{Task}
 use Rattle.machine.specs.declared.states.Task.TheVariants.{Idle}
 use Rattle.machine.specs.declared.states.Worker.{Worker}

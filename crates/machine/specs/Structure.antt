@@ -1,5 +1,5 @@
 -- The structure of batches and cells, over every run.
-use Rattle.std.specs.Prelude.{◌≡◌, ℕ, ◌+◌, ◌*◌, ◌≤◌, Bool, true, false, ◌&&◌, ◌⊎◌, List, [], ◌∷◌, length, replicate, Some, None, Ok, Err, Option, ◌==◌}
+use Rattle.std.specs.Prelude.{◌≡◌, ℕ, ◌+◌, ◌*◌, ◌≤◌, true, ◌&&◌, ◌⊎◌, List, [], ◌∷◌, length, replicate, Some, None, Ok, Err, Option, ◌==◌}
 use Rattle.figures.specs.Limits.{Fit}
 use Rattle.figures.specs.declared.limits.Form.{Form}
 use Rattle.pools.specs.Counts.{bit, times}

@@ -1,5 +1,5 @@
 -- A turn: one step of a worker's task.
-use Rattle.std.specs.Prelude.{ℕ, Bool, true, false, not, List, [], ◌∷◌, nat_lt}
+use Rattle.std.specs.Prelude.{ℕ, Bool, true, false, List, [], ◌∷◌, nat_lt}
 use Rattle.machine.specs.declared.refusals.Refusal.{Refusal}
 use Rattle.machine.specs.declared.refusals.Refusal.TheVariants.{Stranger, Idle as NoTask}
 use Rattle.machine.specs.declared.states.Task.{Task}

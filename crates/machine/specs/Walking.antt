@@ -1,5 +1,5 @@
 -- Walking the blocks that hung from a reservation, newest first, one in each turn.
-use Rattle.std.specs.Prelude.{ℕ, zero, suc, ◌-◌, Bool, true, false, cond, List, [], ◌∷◌, Some, None, Ok, Option, ◌==◌}
+use Rattle.std.specs.Prelude.{ℕ, zero, suc, ◌-◌, true, false, cond, List, [], ◌∷◌, Some, None, Ok, Option, ◌==◌}
 use Rattle.machine.specs.declared.states.Standing.TheVariants.{Pooled}
 use Rattle.machine.specs.declared.states.Block.{Block}
 use Rattle.machine.specs.declared.states.Task.{Task}

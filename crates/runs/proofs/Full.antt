@@ -1,9 +1,9 @@
 -- A pool with all its numbers in.
-use Rattle.std.proofs.Common.{◌≡◌, ℕ, suc, ◌+◌, ◌≤◌, Bool, true, false, cond, ◌&&◌, eqb, List, [], ◌∷◌, length, replicate, Ok, Err, Result, sym, refl, ap, ◌∙◌, subst, arith}
+use Rattle.std.proofs.Common.{◌≡◌, ◌≤◌, Bool, true, false, cond, ◌&&◌, eqb, List, [], ◌∷◌, length, replicate, Ok, Err, Result, sym, refl, ap, ◌∙◌, arith}
 use Rattle.std.proofs.lemmas.Bool.Decides.{nat_tests}
 use Rattle.figures.specs.Limits.{Fit}
 use Rattle.figures.specs.declared.limits.Form.{Form}
-use Rattle.pools.specs.Counts.{bit, tally}
+use Rattle.pools.specs.Counts.{tally}
 use Rattle.machine.specs.declared.refusals.KeeperFault.{KeeperFault}
 use Rattle.machine.specs.declared.refusals.Refusal.TheVariants.{Misfit}
 use Rattle.machine.specs.declared.states.Core.{Core}

@@ -1,10 +1,8 @@
 -- A run from a making on, with every law.
-use Rattle.std.proofs.Common.{◌≡◌, ℕ, Bool, true, List, replicate, Ok, Result, sym, ap, ◌∙◌, subst}
+use Rattle.std.proofs.Common.{◌≡◌, ℕ, Bool, true, List, replicate, Ok, sym, ap, ◌∙◌, subst}
 use Rattle.figures.specs.declared.limits.Form.{Form}
 use Rattle.machine.specs.declared.calls.Call.{Call}
-use Rattle.machine.specs.declared.refusals.KeeperFault.{KeeperFault}
 use Rattle.machine.specs.declared.states.Core.{Core}
-use Rattle.machine.specs.State.{fresh}
 use Rattle.machine.specs.Machine.{State, Reply, make}
 use Rattle.machine.specs.Runs.{start}
 use Rattle.machine.specs.Account.{opened}
@@ -19,7 +17,7 @@ use Rattle.machine.proofs.LooksRuns.{looks_answer_named}
 use Rattle.machine.proofs.CeilingRuns.{below_ceiling}
 use Rattle.machine.proofs.RunsInTime.{eras_in_order}
 use Rattle.keeper.specs.Tables.{state}
-use Rattle.runs.specs.Plays.{Run, PlayedSo}
+use Rattle.runs.specs.Plays.{PlayedSo}
 use Rattle.runs.proofs.Full.{made_fit, made_fresh, made_full}
 use Rattle.runs.proofs.Goes.{Goes, goes_led}
 

@@ -1,7 +1,6 @@
 -- What a call answers, as the machine's reply.
 use Rattle.std.specs.Prelude.{ℕ, Bool, Ok, Err, Option, Result}
 use Rattle.std.specs.Option.{option_map}
-use Rattle.machine.specs.declared.calls.Answer.{Answer}
 use Rattle.machine.specs.declared.calls.Value.TheVariants.{Block}
 use Rattle.machine.specs.declared.refusals.KeeperFault.{KeeperFault}
 use Rattle.machine.specs.Machine.{Reply}

@@ -6,7 +6,7 @@ use Rattle.machine.specs.declared.calls.Call.{Call}
 use Rattle.machine.specs.declared.calls.Call.TheVariants.{Take, Look, Drop, Retire, Relink, Write, Read, Turn}
 use Rattle.machine.specs.declared.calls.Value.TheVariants.{Block, Record}
 use Rattle.machine.specs.Runs.{Line}
-use Rattle.scenarios.specs.Lines.{Scenario, stack, row, reading, prints}
+use Rattle.scenarios.specs.Lines.{Scenario, stack, reading, prints}
 
 abbrev pub form : Form
 form = record { workers = 8; holds = 1; blocks = 100; live = 98; taking_period = 2; trying_period = 1; starting_era = 1 }

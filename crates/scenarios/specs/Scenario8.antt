@@ -6,7 +6,7 @@ use Rattle.machine.specs.declared.calls.Call.{Call}
 use Rattle.machine.specs.declared.calls.Call.TheVariants.{Take, Look, Drop, Retire, Relink, Write, Read, Turn}
 use Rattle.machine.specs.declared.calls.Value.TheVariants.{Block, Record}
 use Rattle.machine.specs.Runs.{Line}
-use Rattle.scenarios.specs.Lines.{Scenario, stack, row, reading, prints}
+use Rattle.scenarios.specs.Lines.{Scenario, stack, reading, prints}
 
 abbrev pub form : Form
 form = record { workers = 2; holds = 3; blocks = 100; live = 58; taking_period = 1; trying_period = 4; starting_era = 1 }

@@ -1,5 +1,4 @@
-use Rattle.std.proofs.Common.{◌≡◌, ℕ, ◌+◌, ◌-◌, ◌≤◌, true, Some, None, sym, ap, ◌∙◌, arith}
-use Rattle.pools.specs.Counts.{bit}
+use Rattle.std.proofs.Common.{◌≡◌, ℕ, ◌+◌, ◌-◌, true, sym, ap, ◌∙◌, arith}
 use Rattle.pools.specs.Meaning.{is_out}
 use Rattle.machine.specs.State.{blank_block, block}
 use Rattle.machine.specs.Moves.{gained_all, gain}

@@ -1,4 +1,4 @@
-use Rattle.std.proofs.Common.{refl, arith}
+use Rattle.std.proofs.Common.{refl}
 use Rattle.keeper.proofs.Places.{place_low}
 use Rattle.keeper.proofs.looking.place_of.Goals as goal
 

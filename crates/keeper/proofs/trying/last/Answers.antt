@@ -1,6 +1,5 @@
-use Rattle.std.proofs.Common.{◌≡◌, ℕ, ◌+◌, ◌-◌, ◌≤◌, true, Some, sym, ◌∙◌, subst, arith}
+use Rattle.std.proofs.Common.{◌≡◌, ℕ, ◌+◌, ◌-◌, ◌≤◌, true, ◌∙◌, subst, arith}
 use Rattle.machine.specs.State.{blank_block, block}
-use Rattle.machine.specs.Walking.{with_count}
 use Rattle.machine.proofs.Stores.{set_keeps}
 use Rattle.keeper.specs.Fits.{batch_fits, block_fits}
 use Rattle.keeper.proofs.Ranges.{batch_ranges, recounted_fits}

@@ -1,4 +1,4 @@
-use Rattle.std.proofs.Common.{◌≡◌, ◌≤◌, List, length, sym, ap, rules}
+use Rattle.std.proofs.Common.{◌≤◌, List, length, sym, ap, rules}
 use Rattle.std.proofs.lemmas.List.{set_past}
 use Rattle.machine.specs.declared.states.Block.{Block}
 use Rattle.machine.specs.declared.states.BlockTable.{BlockTable}
