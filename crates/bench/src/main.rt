@@ -9,23 +9,23 @@ mod words;
 
 use crate::playing::lines_of;
 use crate::scripts::{Script, read_scripts};
-use anyhow::anyhow;
+use std::process::ExitCode;
 use std::{env, fs};
 
-// The runs that a file writes; where it writes none, or cannot be read, it is complained of.
-fn scripts_in(rt: &HostRuntime, file: &str) -> anyhow::Result<Vec<Script>> {
+// The runs that a file writes; none where it writes no runs, or cannot be read, of which it is complained then.
+fn scripts_in(rt: &HostRuntime, file: &str) -> anyhow::Result<Option<Vec<Script>>> {
     let text = match fs::read_to_string(rt, file) {
         Ok(text) => text,
         Err(error) => {
             eprintln!(rt; "bench: {file}: {error}")?;
-            return Err(anyhow!("it cannot be read"));
+            return Ok(None);
         }
     };
     match read_scripts(rt.alloc(), text.as_str()) {
-        Ok(scripts) => Ok(scripts),
+        Ok(scripts) => Ok(Some(scripts)),
         Err(fault) => {
             eprintln!(rt; "bench: {file}: {fault}")?;
-            Err(anyhow!("it is no text of runs"))
+            Ok(None)
         }
     }
 }
@@ -43,18 +43,21 @@ fn print_runs(rt: &HostRuntime, scripts: &[Script]) -> anyhow::Result<()> {
     Ok(())
 }
 
-fn main(rt: HostRuntime) -> anyhow::Result<()> {
+fn main(rt: HostRuntime) -> anyhow::Result<ExitCode> {
     let files: Vec<String> = env::args(&rt)?.skip(1).collect(rt.alloc())?;
     if files.is_empty() {
         eprintln!(rt; "bench: give a file of runs")?;
-        return Err(anyhow!("no file"));
+        return Ok(ExitCode::FAILURE);
     }
     let mut texts = Vec::new(rt.alloc());
     for file in files.as_slice() {
-        texts.push(scripts_in(&rt, file.as_str())?)?;
+        let Some(scripts) = scripts_in(&rt, file.as_str())? else {
+            return Ok(ExitCode::FAILURE);
+        };
+        texts.push(scripts)?;
     }
     for scripts in texts.as_slice() {
         print_runs(&rt, scripts.as_slice())?;
     }
-    Ok(())
+    Ok(ExitCode::SUCCESS)
 }
