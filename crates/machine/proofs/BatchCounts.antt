@@ -38,16 +38,16 @@ rows_none l [] h = refl
 rows_none l (y ∷ ys) h = let a = h 0 in let b = rows_none l ys (λ i. h (suc i)) in omega arith
 
 -- the first place of a sum apart
-pub Σ-first : (f : ℕ → ℕ) (n : ℕ) → Σ f (suc n) ≡ f 0 + Σ (λ i. f (suc i)) n
-Σ-first f zero = refl
-Σ-first f (suc n) = let h = Σ-first f n in omega arith
+pub Σ_first : (f : ℕ → ℕ) (n : ℕ) → Σ f (suc n) ≡ f 0 + Σ (λ i. f (suc i)) n
+Σ_first f zero = refl
+Σ_first f (suc n) = let h = Σ_first f n in omega arith
 
 -- place by place
 pub rows_sum : (l : ℕ) (rows : List Block) → count_rows l rows ≡ Σ (λ b. batched l (get_or rows b blank_block)) (length rows)
 rows_sum l [] = refl
 rows_sum l (y ∷ ys) =
     let h = rows_sum l ys in
-    let f = Σ-first (λ b. batched l (get_or (y ∷ ys) b blank_block)) (length ys) in
+    let f = Σ_first (λ b. batched l (get_or (y ∷ ys) b blank_block)) (length ys) in
     ap (λ n. batched l y + n) h ∙ sym f
 
 -- a block that is not retired does not count

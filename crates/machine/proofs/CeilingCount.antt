@@ -14,44 +14,44 @@ use Rattle.machine.specs.State.{block, worker}
 use Rattle.machine.specs.Account.{is_retired}
 use Rattle.machine.specs.BatchSizes.{ShortBatches}
 use Rattle.machine.specs.CeilingKept.{list_most_of}
-use Rattle.machine.proofs.Sums.{Σ, tot, mark, is, is_self, is_other, Σ-cong, Σ-mono, Σ-zero, Σ-term}
+use Rattle.machine.proofs.Sums.{Σ, tot, mark, is, is_self, is_other, Σ_cong, Σ_mono, Σ_zero, Σ_term}
 use Rattle.machine.proofs.Mirror.{view}
 use Rattle.machine.proofs.Sound.{Gh, Lead, owns, on, of}
 use Rattle.machine.proofs.Owners.{slack}
-use Rattle.machine.proofs.StepsSound.{reservations, Good, few_places, retired_below, Σ-add, Σ-is}
+use Rattle.machine.proofs.StepsSound.{reservations, Good, few_places, retired_below, Σ_add, Σ_is}
 use Rattle.machine.proofs.ShortTurns.{counted, names_lead}
-use Rattle.machine.proofs.Potential.{Σ-most}
+use Rattle.machine.proofs.Potential.{Σ_most}
 use Rattle.machine.proofs.Loads.{Loads}
 
 -- double sums
-Σ-swap : (f : ℕ → ℕ → ℕ) (m n : ℕ) → Σ (λ i. Σ (λ j. f i j) n) m ≡ Σ (λ j. Σ (λ i. f i j) m) n
-Σ-swap f zero n = sym (Σ-zero n)
-Σ-swap f (suc m) n =
-    let a = Σ-swap f m n in
-    let b = Σ-add (λ j. f m j) (λ j. Σ (λ i. f i j) m) n in
+Σ_swap : (f : ℕ → ℕ → ℕ) (m n : ℕ) → Σ (λ i. Σ (λ j. f i j) n) m ≡ Σ (λ j. Σ (λ i. f i j) m) n
+Σ_swap f zero n = sym (Σ_zero n)
+Σ_swap f (suc m) n =
+    let a = Σ_swap f m n in
+    let b = Σ_add (λ j. f m j) (λ j. Σ (λ i. f i j) m) n in
     omega arith
 
-Σ-times : (f : ℕ → ℕ) (m n : ℕ) → Σ (λ i. m * f i) n ≡ m * Σ f n
-Σ-times f m zero = omega arith
-Σ-times f m (suc n) = let a = Σ-times f m n in omega arith
+Σ_times : (f : ℕ → ℕ) (m n : ℕ) → Σ (λ i. m * f i) n ≡ m * Σ f n
+Σ_times f m zero = omega arith
+Σ_times f m (suc n) = let a = Σ_times f m n in omega arith
 
 -- each number is one at most
 is_most : (x n : ℕ) → Σ (λ l. is l x) n ≤ 1
 is_most x n = elim (dec_lt x n) [
-  | yes h ↦ (let a = Σ-is x n h in omega arith)
-  | no h ↦ (let a = Σ-cong (λ l. is l x) (λ _. 0) n (λ l k. is_other l x (λ e. h (omega arith))) in let b = Σ-zero n in omega arith)
+  | yes h ↦ (let a = Σ_is x n h in omega arith)
+  | no h ↦ (let a = Σ_cong (λ l. is l x) (λ _. 0) n (λ l k. is_other l x (λ e. h (omega arith))) in let b = Σ_zero n in omega arith)
 ]
 
 by_value : (f : ℕ → ℕ) (xs : List ℕ) (n : ℕ) → Σ (λ l. tot (λ x. is l (f x)) xs) n ≤ length xs
-by_value f [] n = let z = Σ-zero n in omega arith
+by_value f [] n = let z = Σ_zero n in omega arith
 by_value f (x ∷ xs) n =
     let a = by_value f xs n in
     let b = is_most (f x) n in
-    let c = Σ-add (λ l. is l (f x)) (λ l. tot (λ y. is l (f y)) xs) n in
+    let c = Σ_add (λ l. is l (f x)) (λ l. tot (λ y. is l (f y)) xs) n in
     omega arith
 
 owns_most : (o : Option Batch) (n : ℕ) → Σ (λ l. owns l o) n ≤ 1
-owns_most None n = let z = Σ-zero n in omega arith
+owns_most None n = let z = Σ_zero n in omega arith
 owns_most (Some x) n = is_most x.lead n
 
 at_least_once : (s t : ℕ) → 1 ≤ t → s ≤ s * t
@@ -93,7 +93,7 @@ module _ (form : Form) (fit : Fit form) (k : Core) (inside : List Bool) (same_fo
       by_way Retired e =
           let m = gd.3.members_are b (block k b).lead in
           let a : mark (is_retired (block k b).standing && eqb (block k b).lead (block k b).lead) ≡ 1 = ap (λ y. mark (is_retired y && eqb (block k b).lead (block k b).lead)) e ∙ is_self (block k b).lead in
-          let t = Σ-term (λ m. tot (is b) (g.members m)) (block k b).lead N (lead_below b e) in
+          let t = Σ_term (λ m. tot (is b) (g.members m)) (block k b).lead N (lead_below b e) in
           omega arith
 
   -- a batch that has a block is held somewhere
@@ -138,24 +138,24 @@ module _ (form : Form) (fit : Fit form) (k : Core) (inside : List Bool) (same_fo
       let R : ℕ = reservations form in
       let W : ℕ = form.workers in
       let L : ℕ = list_most_of form in
-      let a = Σ-add (λ m. Σ (λ w. owns m (worker k w).batch) W) (λ m. on R W g (of lead m)) N in
-      let b = Σ-add (λ m. Σ (λ r. tot (of lead m) (g.hung r)) R) (λ m. Σ (λ w. tot (of lead m) (g.walk w)) W) N in
-      let c = Σ-swap (λ m w. owns m (worker k w).batch) N W in
-      let d = Σ-most (λ w. Σ (λ m. owns m (worker k w).batch) N) 1 W (λ w _. owns_most (worker k w).batch N) in
-      let e = Σ-swap (λ m r. tot (of lead m) (g.hung r)) N R in
-      let f = Σ-most (λ r. Σ (λ m. tot (of lead m) (g.hung r)) N) L R (λ r hr. let p = by_value lead (g.hung r) N in let q = list_short r hr in omega arith) in
-      let h = Σ-swap (λ m w. tot (of lead m) (g.walk w)) N W in
-      let i = Σ-most (λ w. Σ (λ m. tot (of lead m) (g.walk w)) N) L W (λ w hw. let p = by_value lead (g.walk w) N in let q = walk_short w hw in omega arith) in
+      let a = Σ_add (λ m. Σ (λ w. owns m (worker k w).batch) W) (λ m. on R W g (of lead m)) N in
+      let b = Σ_add (λ m. Σ (λ r. tot (of lead m) (g.hung r)) R) (λ m. Σ (λ w. tot (of lead m) (g.walk w)) W) N in
+      let c = Σ_swap (λ m w. owns m (worker k w).batch) N W in
+      let d = Σ_most (λ w. Σ (λ m. owns m (worker k w).batch) N) 1 W (λ w _. owns_most (worker k w).batch N) in
+      let e = Σ_swap (λ m r. tot (of lead m) (g.hung r)) N R in
+      let f = Σ_most (λ r. Σ (λ m. tot (of lead m) (g.hung r)) N) L R (λ r hr. let p = by_value lead (g.hung r) N in let q = list_short r hr in omega arith) in
+      let h = Σ_swap (λ m w. tot (of lead m) (g.walk w)) N W in
+      let i = Σ_most (λ w. Σ (λ m. tot (of lead m) (g.walk w)) N) L W (λ w hw. let p = by_value lead (g.walk w) N in let q = walk_short w hw in omega arith) in
       let j : R * L + W * L ≡ (R + W) * L = sym (add-mul R W L) in
       omega arith
 
   -- so no more are retired than the ceiling says
   pub few_retired : Σ (λ b. mark (is_retired (block k b).standing)) N ≤ ceiling_of form
   few_retired =
-      let a = Σ-mono (λ b. mark (is_retired (block k b).standing)) (λ b. Σ (λ m. tot (is b) (g.members m)) N) N in_batch in
-      let b = Σ-swap (λ b m. tot (is b) (g.members m)) N N in
-      let c = Σ-mono (λ m. Σ (λ b. tot (is b) (g.members m)) N) (λ m. S * places_of m) N (λ m _. let p = by_value (λ y. y) (g.members m) N in let q = batch_held m in omega arith) in
-      let d = Σ-times places_of S N in
+      let a = Σ_mono (λ b. mark (is_retired (block k b).standing)) (λ b. Σ (λ m. tot (is b) (g.members m)) N) N in_batch in
+      let b = Σ_swap (λ b m. tot (is b) (g.members m)) N N in
+      let c = Σ_mono (λ m. Σ (λ b. tot (is b) (g.members m)) N) (λ m. S * places_of m) N (λ m _. let p = by_value (λ y. y) (g.members m) N in let q = batch_held m in omega arith) in
+      let d = Σ_times places_of S N in
       let P : ℕ = form.workers + (form.workers * form.holds + form.workers) * list_most_of form in
       let e = mul-le S (Σ (λ m. places_of m) N) S P (omega arith) places_most in
       let f = counts_places form.workers form.holds form.live form.taking_period form.trying_period in

@@ -36,14 +36,14 @@ use Rattle.machine.specs.Trying.{passed_over, try_visit, hang_on, try_hang, try_
 use Rattle.machine.specs.Turns.{turn_checks, step, turn}
 use Rattle.machine.proofs.Passing.{by_test}
 use Rattle.machine.proofs.Stores.{replicate_all}
-use Rattle.machine.proofs.Sums.{Σ, mark, Σ-cong}
+use Rattle.machine.proofs.Sums.{Σ, mark, Σ_cong}
 use Rattle.machine.proofs.Chains.{Chain}
 use Rattle.machine.proofs.Agreement.{one_standing}
-use Rattle.machine.proofs.BatchCounts.{Σ-first}
+use Rattle.machine.proofs.BatchCounts.{Σ_first}
 use Rattle.machine.proofs.RunsInTime.{fresh_in_order}
 use Rattle.machine.proofs.LivingParts.{fresh_living}
 use Rattle.machine.proofs.Sound.{head, next}
-use Rattle.machine.proofs.StepsSound.{few_blocks, Σ-add}
+use Rattle.machine.proofs.StepsSound.{few_blocks, Σ_add}
 use Rattle.machine.proofs.RunsSound.{Whole, pooled_in, whole_after, made_whole}
 use Rattle.machine.proofs.Waiting.{head_is, next_is}
 use Rattle.machine.proofs.Potential.{shape, stage, emptied_hold, SlotsRight}
@@ -76,17 +76,17 @@ fresh_light form fit = (
 -- a list by its places
 tally_sum : (bs : List Bool) → tally bs ≡ Σ (λ b. bit (get_or bs b false)) (length bs)
 tally_sum [] = refl
-tally_sum (x ∷ xs) = let h = tally_sum xs in let f = Σ-first (λ b. bit (get_or (x ∷ xs) b false)) (length xs) in ap (λ n. bit x + n) h ∙ sym f
+tally_sum (x ∷ xs) = let h = tally_sum xs in let f = Σ_first (λ b. bit (get_or (x ∷ xs) b false)) (length xs) in ap (λ n. bit x + n) h ∙ sym f
 
 live_sum : (xs : List Block) → live_among xs ≡ Σ (λ b. bit (is_live (get_or xs b blank_block).standing)) (length xs)
 live_sum [] = refl
-live_sum (x ∷ xs) = let h = live_sum xs in let f = Σ-first (λ b. bit (is_live (get_or (x ∷ xs) b blank_block).standing)) (length xs) in ap (λ n. bit (is_live x.standing) + n) h ∙ sym f
+live_sum (x ∷ xs) = let h = live_sum xs in let f = Σ_first (λ b. bit (is_live (get_or (x ∷ xs) b blank_block).standing)) (length xs) in ap (λ n. bit (is_live x.standing) + n) h ∙ sym f
 
-Σ-shorter : (f : ℕ → ℕ) (m n : ℕ) → m ≤ n → Σ f m ≤ Σ f n
-Σ-shorter f m zero h = let e : m ≡ 0 = omega arith in subst (λ i. Σ f i ≤ 0) (sym e) (omega arith)
-Σ-shorter f m (suc n) h = elim (ℕ_discrete m (suc n)) [
+Σ_shorter : (f : ℕ → ℕ) (m n : ℕ) → m ≤ n → Σ f m ≤ Σ f n
+Σ_shorter f m zero h = let e : m ≡ 0 = omega arith in subst (λ i. Σ f i ≤ 0) (sym e) (omega arith)
+Σ_shorter f m (suc n) h = elim (ℕ_discrete m (suc n)) [
   | yes e ↦ subst (λ i. Σ f i ≤ Σ f (suc n)) (sym e) (omega arith)
-  | no ne ↦ (let a = Σ-shorter f m n (omega arith) in omega arith)
+  | no ne ↦ (let a = Σ_shorter f m n (omega arith) in omega arith)
 ]
 
 retired_sum : (a : Account) (n : ℕ) → retired_blocks a n ≡ Σ (λ b. bit (a.retired b)) n
@@ -133,7 +133,7 @@ module _ {R : Type 0} (form : Form) (fit : Fit form) (s : State R) (a : Account)
   low = record {
     few_retired =
         let e = retired_sum a (length s.inside) in
-        let f = Σ-cong (λ b. bit (a.retired b)) (λ b. mark (is_retired (block s.core b).standing)) (length s.inside) (λ b _. ap bit (h.agrees.same_retired b) ∙ bit_mark _) in
+        let f = Σ_cong (λ b. bit (a.retired b)) (λ b. mark (is_retired (block s.core b).standing)) (length s.inside) (λ b _. ap bit (h.agrees.same_retired b) ∙ bit_mark _) in
         let i = ap (Σ (λ b. mark (is_retired (block s.core b).standing))) h.good.1 in
         let j = few_retired form fit s.core s.inside h.order.same_form h.good h.short light.0 light.1 light.2 in
         omega arith;
@@ -156,17 +156,17 @@ module _ {R : Type 0} (form : Form) (fit : Fit form) (s : State R) (a : Account)
       let n : ℕ = length s.inside in
       let long : n ≡ form.blocks = h.good.1 in
       let each = one_standing a s.core h.agrees s.inside (pooled_in form fit s.core s.inside h.good) in
-      let b = Σ-cong (λ i. bit (get_or s.inside i false) + bit (a.live i) + bit (a.retired i)) (λ _. 1) n each in
+      let b = Σ_cong (λ i. bit (get_or s.inside i false) + bit (a.live i) + bit (a.retired i)) (λ _. 1) n each in
       let c = ones n in
-      let d = Σ-add (λ i. bit (get_or s.inside i false) + bit (a.live i)) (λ i. bit (a.retired i)) n in
-      let e = Σ-add (λ i. bit (get_or s.inside i false)) (λ i. bit (a.live i)) n in
+      let d = Σ_add (λ i. bit (get_or s.inside i false) + bit (a.live i)) (λ i. bit (a.retired i)) n in
+      let e = Σ_add (λ i. bit (get_or s.inside i false)) (λ i. bit (a.live i)) n in
       let f = tally_sum s.inside in
       let i = retired_sum a n in
       let j = low.few_retired in
-      let m = Σ-cong (λ x. bit (a.live x)) (λ x. bit (is_live (block s.core x).standing)) n (λ x _. ap bit (h.agrees.same_live x)) in
+      let m = Σ_cong (λ x. bit (a.live x)) (λ x. bit (is_live (block s.core x).standing)) n (λ x _. ap bit (h.agrees.same_live x)) in
       let p = live_sum s.core.blocks.rows in
       let q = h.few.rows in
-      let t = Σ-shorter (λ x. bit (is_live (block s.core x).standing)) n (length s.core.blocks.rows) (omega (arith, few_blocks form fit)) in
+      let t = Σ_shorter (λ x. bit (is_live (block s.core x).standing)) n (length s.core.blocks.rows) (omega (arith, few_blocks form fit)) in
       let u = h.few.counted in
       omega arith
 

@@ -7,7 +7,7 @@ use Rattle.machine.specs.declared.states.Standing.{Standing}
 use Rattle.machine.specs.declared.states.Standing.TheVariants.{Pooled, Live, Retired}
 use Rattle.machine.specs.declared.states.Task.{Task}
 use Rattle.machine.specs.declared.states.Task.TheVariants.{Idle, TakeEra, TakeBlock, LookCell, LookEra, LookList, LookWalk, LookAgain, LookWrite, DropList, DropWalk, DropEra, TryVisit, TryHang, TryLast}
-use Rattle.machine.proofs.Sums.{upd, Σ, tot, mark, is, Each, each_of, Σ-cong, Σ-mono, Σ-term, upd_same, upd_other, is_self, is_other, tot_mono}
+use Rattle.machine.proofs.Sums.{upd, Σ, tot, mark, is, Each, each_of, Σ_cong, Σ_mono, Σ_term, upd_same, upd_other, is_self, is_other, tot_mono}
 use Rattle.machine.proofs.Chains.{Chain, Ends}
 use Rattle.machine.proofs.Mirror.{St, give, give_all}
 use Rattle.machine.proofs.Sound.{Gh, Sound, Lead, Own, TaskRight, Alive, AliveBut, owns, due, due_of, of, on, to_hang}
@@ -57,8 +57,8 @@ is_of lead b x = elim (ℕ_discrete x b) [
 
 pub on_mono : (R W : ℕ) (g : Gh) (p q : ℕ → ℕ) → ((x : ℕ) → p x ≤ q x) → on R W g p ≤ on R W g q
 on_mono R W g p q h =
-    let a = Σ-mono (λ r. tot p (g.hung r)) (λ r. tot q (g.hung r)) R (λ i _. tot_mono p q (g.hung i) h) in
-    let b = Σ-mono (λ w. tot p (g.walk w)) (λ w. tot q (g.walk w)) W (λ i _. tot_mono p q (g.walk i) h) in
+    let a = Σ_mono (λ r. tot p (g.hung r)) (λ r. tot q (g.hung r)) R (λ i _. tot_mono p q (g.hung i) h) in
+    let b = Σ_mono (λ w. tot p (g.walk w)) (λ w. tot q (g.walk w)) W (λ i _. tot_mono p q (g.walk i) h) in
     omega arith
 
 -- a block that counts as a member is one
@@ -156,7 +156,7 @@ module _ (N R W : ℕ) (s : St) (g : Gh) (c : Sound N R W s g) (small : R ≤ 32
 
   spent_own : (w : ℕ) → w < W → (x : Batch) → s.batch w ≡ Some x → x.lead ≢ l
   spent_own w hw x e = unowned l x (
-      let t = Σ-term (λ v. owns l (s.batch v)) w W hw in
+      let t = Σ_term (λ v. owns l (s.batch v)) w W hw in
       let k = ap (owns l) e in
       let o = spent_left in
       omega arith)
@@ -225,7 +225,7 @@ module _ (N R W : ℕ) (s : St) (g : Gh) (c : Sound N R W s g) (small : R ≤ 32
     ]
 
     given_due : (p : ℕ → ℕ) → to_hang W (restand s i st) (disband g l) p ≡ to_hang W s g p
-    given_due p = Σ-cong (λ w. tot p (due_of (upd g.members l []) (g.rest w) (s.batch w) (s.task w))) (λ w. tot p (due_of g.members (g.rest w) (s.batch w) (s.task w))) W
+    given_due p = Σ_cong (λ w. tot p (due_of (upd g.members l []) (g.rest w) (s.batch w) (s.task w))) (λ w. tot p (due_of g.members (g.rest w) (s.batch w) (s.task w))) W
         (λ w hw. ap (tot p) (sym (due_other g.members (upd g.members l []) (g.rest w) (s.batch w) (s.task w) (spent_same w hw))))
 
     given_sound : Sound N R W (restand s i st) (disband g l)

@@ -8,7 +8,7 @@ use Rattle.machine.specs.declared.states.Task.{Task}
 use Rattle.machine.specs.declared.states.Task.TheVariants.{LookEra, TryVisit}
 use Rattle.machine.specs.Account.{is_retired}
 use Rattle.machine.specs.Trying.{is_off}
-use Rattle.machine.proofs.Sums.{upd, Σ-term, tot, is, is_self, upd_same, upd_other}
+use Rattle.machine.proofs.Sums.{upd, Σ_term, tot, is, is_self, upd_same, upd_other}
 use Rattle.machine.proofs.Mirror.{St, give, give_all}
 use Rattle.machine.proofs.Sound.{Gh, Sound, head, of}
 use Rattle.machine.proofs.Owners.{own_lead}
@@ -108,8 +108,8 @@ module _ (N W H : ℕ) (F E : ℕ → Type 0) (s : St) (g : Gh) (x : Extra) (c :
         let y_lead = of_is s.lead (s.lead z) y i.2 in
         let before : 1 ≤ tot (is y) (g.hung r) = subst (λ ys. 1 ≤ tot (is y) ys) (chain_unique s.under (head (s.list r)) xs (g.hung r) ch (c.hung_chain r hr)) i.1 in
         let after : 1 ≤ tot (is y) (g'.hung r) = subst (λ ys. 1 ≤ tot (is y) ys) (chain_unique s.under (head (s.list r)) xs (g'.hung r) ch (c'.hung_chain r hr)) i.1 in
-        let a = Σ-term (λ k. tot (is y) (g.hung k)) r (W * H) hr in
-        let b = Σ-term (λ k. tot (is y) (g'.hung k)) r (W * H) hr in
+        let a = Σ_term (λ k. tot (is y) (g.hung k)) r (W * H) hr in
+        let b = Σ_term (λ k. tot (is y) (g'.hung k)) r (W * H) hr in
         let ret_y = c.entries y (omega arith) in
         let ret_then = c'.entries y (omega arith) in
         let inn = (batch_of s back whole z m).1 y ret_y y_lead in

@@ -8,7 +8,7 @@ use Rattle.machine.specs.declared.states.Task.{Task}
 use Rattle.machine.specs.declared.states.Task.TheVariants.{TryVisit, TryHang, TryLast}
 use Rattle.machine.specs.Trying.{is_off}
 use Rattle.machine.proofs.Passing.{by_test}
-use Rattle.machine.proofs.Sums.{upd, Σ-term, tot, is, is_self, upd_same, upd_other}
+use Rattle.machine.proofs.Sums.{upd, Σ_term, tot, is, is_self, upd_same, upd_other}
 use Rattle.machine.proofs.Chains.{Chain}
 use Rattle.machine.proofs.Mirror.{St, retask, relist, reunder}
 use Rattle.machine.proofs.Sound.{Gh, Sound, head, of, due_of, on}
@@ -72,7 +72,7 @@ module _ (N W H : ℕ) (F E : ℕ → Type 0) (s : St) (g : Gh) (x : Extra) (c :
     out =
         let i = hang_info N (W * H) W s g c small w hw b left hung te in
         let due : tot (is b) (due_of g.members (g.rest w) (s.batch w) (s.task w)) ≡ is b b + tot (is b) i.2 = rw (te, i.1, i.3) refl in
-        let term = Σ-term (λ v. tot (is b) (due_of g.members (g.rest v) (s.batch v) (s.task v))) w W hw in
+        let term = Σ_term (λ v. tot (is b) (due_of g.members (g.rest v) (s.batch v) (s.task v))) w W hw in
         let o = c.once b in
         let z = is_self b in
         omega arith
@@ -84,7 +84,7 @@ module _ (N W H : ℕ) (F E : ℕ → Type 0) (s : St) (g : Gh) (x : Extra) (c :
         chain_same s.under (upd s.under b (head (s.list q))) (head (s.list r)) xs
         (λ z m. upd_other s.under b (head (s.list q)) z (λ i.
         let a : 1 ≤ tot (is b) (g.hung r) = subst (λ ys. 1 ≤ tot (is b) ys) e (subst (λ k. 1 ≤ tot (is k) xs) i m) in
-        let term = Σ-term (λ k. tot (is b) (g.hung k)) r (W * H) hr in
+        let term = Σ_term (λ k. tot (is b) (g.hung k)) r (W * H) hr in
         let o = out in
         omega arith)) ch
 

@@ -8,7 +8,7 @@ use Rattle.machine.specs.declared.states.Task.{Task}
 use Rattle.machine.specs.declared.states.Task.TheVariants.{Idle, TryVisit}
 use Rattle.machine.specs.Trying.{is_off}
 use Rattle.machine.specs.Calls.{joined}
-use Rattle.machine.proofs.Sums.{upd, Σ-term, tot, is, tot_on, upd_same, upd_other}
+use Rattle.machine.proofs.Sums.{upd, Σ_term, tot, is, tot_on, upd_same, upd_other}
 use Rattle.machine.proofs.Mirror.{St, rebatch, join}
 use Rattle.machine.proofs.Sound.{Gh, Sound, head, of, owns}
 use Rattle.machine.proofs.Owners.{owns_own, alone}
@@ -50,7 +50,7 @@ module _ (N W H : ℕ) (F E : ℕ → Type 0) (s : St) (g : Gh) (x : Extra) (c :
         let q = tot_on (of (upd s.lead b y'.lead) l) (of s.lead l) xs
         (λ z i.
         let j : 1 ≤ tot (is z) (g.hung r) = subst (λ ys. 1 ≤ tot (is z) ys) same i in
-        let term = Σ-term (λ k. tot (is z) (g.hung k)) r (W * H) hr in
+        let term = Σ_term (λ k. tot (is z) (g.hung k)) r (W * H) hr in
         ap (λ k. of (λ _. k) l z) (upd_other s.lead b y'.lead z (not_b z (c.entries z (omega arith))))) in
         inl (xs, ch, omega arith)
     holds r l hr (inr (v, hv, (y, o, lead, p))) = elim (ℕ_discrete v w) [

@@ -31,7 +31,7 @@ use Rattle.machine.specs.Dropping.{drop_list, drop_task, drop_on, drop_era}
 use Rattle.machine.specs.Trying.{is_off, passed_over, block_after, visited, try_visit, with_slot, hung_at, hanged, hang_on, try_hang, settled, try_last}
 use Rattle.machine.specs.Turns.{step}
 use Rattle.machine.proofs.Passing.{by_test}
-use Rattle.machine.proofs.Sums.{upd, upd_same, upd_other, upd_self, Σ-term, tot, is, is_self, Each, each_of}
+use Rattle.machine.proofs.Sums.{upd, upd_same, upd_other, upd_self, Σ_term, tot, is, is_self, Each, each_of}
 use Rattle.machine.proofs.Chains.{Chain, chain_some}
 use Rattle.machine.proofs.Mirror.{St, view, retask, rebatch, relist, reunder, recount}
 use Rattle.machine.proofs.Sound.{Gh, Sound, Alive, Lead, head, next}
@@ -312,7 +312,7 @@ module _ (form : Form) (fit : Fit form) (k : Core) (inside : List Bool) (n : ℕ
       let m = chain_some s.under b (g.walk w) (subst (λ u. Chain s.under u (g.walk w)) e (c.walk_chain w hw)) in
       let i = is_self b in
       let t = ap (tot (is b)) m.1 in
-      let term = Σ-term (λ v. tot (is b) (g.walk v)) w W hw in
+      let term = Σ_term (λ v. tot (is b) (g.walk v)) w W hw in
       c.led b (c.entries b (omega arith))
 
   handled_guards : (b : ℕ) (t u : Task) → (worker k w).task ≡ u → next u ≡ Some b → ((newest r : ℕ) → Pends s.elder (extra k).slot newest t r) → ((h i d : ℕ) → t ≢ LookEra h i (Some d)) → ((p d m : ℕ) → t ≢ TryVisit p d m)

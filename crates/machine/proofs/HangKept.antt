@@ -6,7 +6,7 @@ use Rattle.machine.specs.declared.states.HungList.TheVariants.{Off, Newest}
 use Rattle.machine.specs.declared.states.Standing.TheVariants.{Retired}
 use Rattle.machine.specs.declared.states.Task.{Task}
 use Rattle.machine.specs.declared.states.Task.TheVariants.{TryHang, TryLast}
-use Rattle.machine.proofs.Sums.{upd, Σ, tot, mark, is, upd_same, upd_other, is_self, is_other, Σ-term, Σ-upd, Σ-upd-at, Σ-upd₂-at, at_upd, at-upd₂}
+use Rattle.machine.proofs.Sums.{upd, Σ, tot, mark, is, upd_same, upd_other, is_self, is_other, Σ_term, Σ_upd, Σ_upd_at, Σ_upd₂_at, at_upd, at_upd₂}
 use Rattle.machine.proofs.Chains.{Chain, chain_upd, chain_some}
 use Rattle.machine.proofs.Mirror.{St, retask, relist, reunder}
 use Rattle.machine.proofs.GiveKept.{marked}
@@ -92,13 +92,13 @@ module _ (N R W : ℕ) (s : St) (g : Gh) (c : Sound N R W s g) (small : R ≤ 32
       hang_due p =
           let x : Batch = hang_info.0 in
           let ex : s.batch w ≡ Some x = hang_info.1 in
-          let a = Σ-upd₂-at (λ j y u. tot p (due_of g.members y (s.batch j) u)) g.rest s.task w bs t W hw in
+          let a = Σ_upd₂_at (λ j y u. tot p (due_of g.members y (s.batch j) u)) g.rest s.task w bs t W hw in
           let d : tot p (due_of g.members (g.rest w) (s.batch w) (s.task w)) ≡ p b + tot p bs = rw (eb, e, ex) refl in
           let f : tot p (due_of g.members bs (s.batch w) t) ≤ tot p bs = rw ex (dt p (g.members x.lead)) in
           omega arith
 
       hang_tasks : (v : ℕ) → v < W → TaskRight R s.elder g.members (s.batch v) (upd g.rest w bs v) (upd s.task w t v)
-      hang_tasks v hv = at-upd₂ (λ j y u. TaskRight R s.elder g.members (s.batch j) y u) g.rest s.task w bs t right v (λ ne. c.tasks v hv)
+      hang_tasks v hv = at_upd₂ (λ j y u. TaskRight R s.elder g.members (s.batch j) y u) g.rest s.task w bs t right v (λ ne. c.tasks v hv)
 
       hang_walks : (v : ℕ) → v < W → Chain s.under (next (upd s.task w t v)) (g.walk v)
       hang_walks v hv = at_upd (λ j u. Chain s.under (next u) (g.walk j)) s.task w t
@@ -106,7 +106,7 @@ module _ (N R W : ℕ) (s : St) (g : Gh) (c : Sound N R W s g) (small : R ≤ 32
 
       hang_count : (l : ℕ) → Σ (λ v. hung_for l (s.batch v) (upd s.task w t v)) W + hung_for l (s.batch w) (TryHang b left hung) ≡ Σ (λ v. hung_for l (s.batch v) (s.task v)) W + hung_for l (s.batch w) t
       hang_count l =
-          let a = Σ-upd-at (λ j u. hung_for l (s.batch j) u) s.task w t W hw in
+          let a = Σ_upd_at (λ j u. hung_for l (s.batch j) u) s.task w t W hw in
           let d = ap (hung_for l (s.batch w)) e in
           omega arith
 
@@ -152,13 +152,13 @@ module _ (N R W : ℕ) (s : St) (g : Gh) (c : Sound N R W s g) (small : R ≤ 32
         hanged = retask (relist (reunder s b (head (s.list r))) r (Newest b)) w t
 
         on_push : (p : ℕ → ℕ) → on R W (push g r b w bs) p ≡ on R W g p + p b
-        on_push p = let a = Σ-upd (tot p) g.hung r (b ∷ g.hung r) R hr in omega arith
+        on_push p = let a = Σ_upd (tot p) g.hung r (b ∷ g.hung r) R hr in omega arith
 
         not_hung : (k : ℕ) → k < R → tot (is b) (g.hung k) ≡ 0
-        not_hung k h = let a = Σ-term (λ i. tot (is b) (g.hung i)) k R h in let o = hang_out in omega arith
+        not_hung k h = let a = Σ_term (λ i. tot (is b) (g.hung i)) k R h in let o = hang_out in omega arith
 
         not_walked : (v : ℕ) → v < W → tot (is b) (g.walk v) ≡ 0
-        not_walked v h = let a = Σ-term (λ i. tot (is b) (g.walk i)) v W h in let o = hang_out in omega arith
+        not_walked v h = let a = Σ_term (λ i. tot (is b) (g.walk i)) v W h in let o = hang_out in omega arith
 
         hang_even : (l : ℕ) → Lead s l → s.count l + Σ (λ v. hung_for l (s.batch v) (upd s.task w t v)) W ≡ on R W (push g r b w bs) (of s.lead l) + 1024 * Σ (λ v. owns l (s.batch v)) W
         hang_even l ll =
@@ -175,7 +175,7 @@ module _ (N R W : ℕ) (s : St) (g : Gh) (c : Sound N R W s g) (small : R ≤ 32
 
         hang_hung : (k : ℕ) → k < R → Chain (upd s.under b (head (s.list r))) (head (upd s.list r (Newest b) k)) (upd g.hung r (b ∷ g.hung r) k)
         hang_hung k hk =
-            at-upd₂ (λ j y z. Chain (upd s.under b (head (s.list r))) (head y) z) s.list g.hung r (Newest b) (b ∷ g.hung r)
+            at_upd₂ (λ j y z. Chain (upd s.under b (head (s.list r))) (head y) z) s.list g.hung r (Newest b) (b ∷ g.hung r)
             (refl, rw (upd_same s.under b (head (s.list r))) (chain_upd s.under b _ _ _ (not_hung r hr) (c.hung_chain r hr)))
             k (λ ne. chain_upd s.under b _ _ _ (not_hung k hk) (c.hung_chain k hk))
 

@@ -6,7 +6,7 @@ use Rattle.machine.specs.declared.states.Standing.{Standing}
 use Rattle.machine.specs.declared.states.Standing.TheVariants.{Pooled, Live, Retired}
 use Rattle.machine.specs.declared.states.Task.{Task}
 use Rattle.machine.specs.declared.states.Task.TheVariants.{Idle, TakeEra, TakeBlock, LookCell, LookEra, LookList, LookWalk, LookAgain, LookWrite, DropList, DropWalk, DropEra, TryVisit, TryHang, TryLast}
-use Rattle.machine.proofs.Sums.{upd, Σ, tot, mark, is, Σ-cong, Σ-zero, Σ-term, Σ-two, Σ-change-in, Σ-upd, Σ-upd₂, upd_same, upd_other, at_upd, is_self, is_other, tot_on, tot_zero}
+use Rattle.machine.proofs.Sums.{upd, Σ, tot, mark, is, Σ_cong, Σ_zero, Σ_term, Σ_two, Σ_change_in, Σ_upd, Σ_upd₂, upd_same, upd_other, at_upd, is_self, is_other, tot_on, tot_zero}
 use Rattle.machine.proofs.Chains.{Chain, Ends, chain_upd, ends_more}
 use Rattle.machine.proofs.Mirror.{St, join, rebatch}
 use Rattle.machine.proofs.Sound.{Gh, Sound, Alive, Lead, Own, TaskRight, next, hung_of, owns, hung_for, due, due_of, of, on, to_hang}
@@ -32,14 +32,14 @@ empty_of (x ∷ xs) z = absurd (let i = is_self x in let k = z x in omega arith)
 -- weights that agree on what hangs or is still to be walked
 pub on_on : (R W : ℕ) (g : Gh) (p q : ℕ → ℕ) → ((x : ℕ) → 1 ≤ on R W g (is x) → p x ≡ q x) → on R W g p ≡ on R W g q
 on_on R W g p q h =
-    let a = Σ-cong (λ r. tot p (g.hung r)) (λ r. tot q (g.hung r)) R (λ r hr. tot_on p q (g.hung r) (λ x m. h x (let t = Σ-term (λ k. tot (is x) (g.hung k)) r R hr in omega arith))) in
-    let b = Σ-cong (λ r. tot p (g.walk r)) (λ r. tot q (g.walk r)) W (λ r hr. tot_on p q (g.walk r) (λ x m. h x (let t = Σ-term (λ k. tot (is x) (g.walk k)) r W hr in omega arith))) in
+    let a = Σ_cong (λ r. tot p (g.hung r)) (λ r. tot q (g.hung r)) R (λ r hr. tot_on p q (g.hung r) (λ x m. h x (let t = Σ_term (λ k. tot (is x) (g.hung k)) r R hr in omega arith))) in
+    let b = Σ_cong (λ r. tot p (g.walk r)) (λ r. tot q (g.walk r)) W (λ r hr. tot_on p q (g.walk r) (λ x m. h x (let t = Σ_term (λ k. tot (is x) (g.walk k)) r W hr in omega arith))) in
     omega arith
 
 pub on_zero : (R W : ℕ) (g : Gh) → on R W g (λ _. 0) ≡ 0
 on_zero R W g =
-    let a = Σ-cong (λ r. tot (λ _. 0) (g.hung r)) (λ _. 0) R (λ r _. tot_zero (g.hung r)) ∙ Σ-zero R in
-    let b = Σ-cong (λ r. tot (λ _. 0) (g.walk r)) (λ _. 0) W (λ r _. tot_zero (g.walk r)) ∙ Σ-zero W in
+    let a = Σ_cong (λ r. tot (λ _. 0) (g.hung r)) (λ _. 0) R (λ r _. tot_zero (g.hung r)) ∙ Σ_zero R in
+    let b = Σ_cong (λ r. tot (λ _. 0) (g.walk r)) (λ _. 0) W (λ r _. tot_zero (g.walk r)) ∙ Σ_zero W in
     omega arith
 
 -- what a try has still to come to is of its worker's batch
@@ -93,7 +93,7 @@ module _ (N R W : ℕ) (s : St) (g : Gh) (c : Sound N R W s g) (b : ℕ) (live :
       omega arith
 
   no_due : to_hang W s g (is b) ≡ 0
-  no_due = Σ-cong (λ v. tot (is b) (due_of g.members (g.rest v) (s.batch v) (s.task v))) (λ _. 0) W (λ v hv. no_due_at (s.batch v) (g.rest v) (s.task v) (c.tasks v hv)) ∙ Σ-zero W
+  no_due = Σ_cong (λ v. tot (is b) (due_of g.members (g.rest v) (s.batch v) (s.task v))) (λ _. 0) W (λ v hv. no_due_at (s.batch v) (g.rest v) (s.task v) (c.tasks v hv)) ∙ Σ_zero W
 
 module _ (N R W : ℕ) (s : St) (g : Gh) (c : Sound N R W s g) (w b l : ℕ) (e : Option ℕ) (n : ℕ) (x : Batch) (t : Task) (rs : List ℕ) (hw : w < W) (idle : s.task w ≡ Idle) (live : s.standing b ≡ Live) (hb : b < N)
     (xl : x.lead ≡ l) (xn : x.newest ≡ b) (tn : next t ≡ None) (th : hung_of t ≡ 0) (td : (ms rest : List ℕ) → due t ms rest ≡ ms)
@@ -108,7 +108,7 @@ module _ (N R W : ℕ) (s : St) (g : Gh) (c : Sound N R W s g) (w b l : ℕ) (e 
     (positive : Alive s → 0 < upd s.count b n l) where
   others : (v : ℕ) → v < W → v ≢ w → (z : Batch) → s.batch v ≡ Some z → z.lead ≢ l
   others v hv ne z q i =
-      let two = Σ-two (λ j. owns l (s.batch j)) w v W hw hv ne in
+      let two = Σ_two (λ j. owns l (s.batch j)) w v W hw hv ne in
       let o : owns l (s.batch v) ≡ 1 = ap (owns l) q ∙ ap (λ j. mark (eqb j l)) i ∙ mark_self l in
       let a = alone in
       omega arith
@@ -163,14 +163,14 @@ module _ (N R W : ℕ) (s : St) (g : Gh) (c : Sound N R W s g) (w b l : ℕ) (e 
 
   owned_here : Σ (λ v. owns l (upd s.batch w (Some x) v)) W ≡ 1
   owned_here =
-      let a = Σ-upd (owns l) s.batch w (Some x) W hw in
+      let a = Σ_upd (owns l) s.batch w (Some x) W hw in
       let k : mark (eqb x.lead l) ≡ 1 = ap (λ j. mark (eqb j l)) xl ∙ mark_self l in
       let o = alone in
       omega arith
 
   owned_there : (m : ℕ) → m ≢ l → Σ (λ v. owns m (upd s.batch w (Some x) v)) W ≡ Σ (λ v. owns m (s.batch v)) W
   owned_there m ne =
-      let a = Σ-upd (owns m) s.batch w (Some x) W hw in
+      let a = Σ_upd (owns m) s.batch w (Some x) W hw in
       let k = mark_other x.lead m (λ i. ne (sym i ∙ xl)) in
       let o = elsewhere m ne in
       omega arith
@@ -252,7 +252,7 @@ module _ (N R W : ℕ) (s : St) (g : Gh) (c : Sound N R W s g) (w b l : ℕ) (e 
   hang_now p =
       let old : ℕ → ℕ = λ v. tot p (due_of g.members (g.rest v) (s.batch v) (s.task v)) in
       let new : ℕ → ℕ = λ v. tot p (due_of (upd g.members l (b ∷ g.members l)) (upd g.rest w rs v) (upd s.batch w (Some x) v) (upd s.task w t v)) in
-      let a = Σ-change-in old new w W hw
+      let a = Σ_change_in old new w W hw
       (λ v hv ne. rw (upd_other g.rest w rs v ne, upd_other s.batch w (Some x) v ne, upd_other s.task w t v ne) (ap (tot p) (due_kept (s.batch v) (g.rest v) (s.task v) (others v hv ne)))) in
       let o : old w ≡ tot p (g.members l) = ap (λ u. tot p (due_of g.members (g.rest w) (s.batch w) u)) idle ∙ ap (tot p) all_due in
       let k : new w ≡ tot p (b ∷ g.members l) = rw (upd_same g.rest w rs, upd_same s.batch w (Some x), upd_same s.task w t) (ap (tot p) due_now) in
@@ -272,7 +272,7 @@ module _ (N R W : ℕ) (s : St) (g : Gh) (c : Sound N R W s g) (w b l : ℕ) (e 
 
   hung_same : (m : ℕ) → Σ (λ v. hung_for m (upd s.batch w (Some x) v) (upd s.task w t v)) W ≡ Σ (λ v. hung_for m (s.batch v) (s.task v)) W
   hung_same m =
-      let a = Σ-upd₂ (hung_for m) s.batch s.task w (Some x) t W hw in
+      let a = Σ_upd₂ (hung_for m) s.batch s.task w (Some x) t W hw in
       let o : hung_for m (s.batch w) (s.task w) ≡ 0 = ap (hung_for m (s.batch w)) idle ∙ idle_none m (s.batch w) in
       let k = hung_none x.lead m (hung_of t) th in
       omega arith
@@ -353,10 +353,10 @@ module _ (N R W : ℕ) (s : St) (g : Gh) (c : Sound N R W s g) (b : ℕ) (live :
   not_hung (Some z) t u = hung_other z.lead b (hung_of t) (not_live N R W s g c b live z.lead u.0.0)
 
   no_owner : Σ (λ v. owns b (s.batch v)) W ≡ 0
-  no_owner = Σ-cong (λ v. owns b (s.batch v)) (λ _. 0) W (λ v hv. not_owned (s.batch v) (c.own v hv)) ∙ Σ-zero W
+  no_owner = Σ_cong (λ v. owns b (s.batch v)) (λ _. 0) W (λ v hv. not_owned (s.batch v) (c.own v hv)) ∙ Σ_zero W
 
   none_hung : Σ (λ v. hung_for b (s.batch v) (s.task v)) W ≡ 0
-  none_hung = Σ-cong (λ v. hung_for b (s.batch v) (s.task v)) (λ _. 0) W (λ v hv. not_hung (s.batch v) (s.task v) (c.own v hv)) ∙ Σ-zero W
+  none_hung = Σ_cong (λ v. hung_for b (s.batch v) (s.task v)) (λ _. 0) W (λ v hv. not_hung (s.batch v) (s.task v) (c.own v hv)) ∙ Σ_zero W
 
   none_on : on R W g (of s.lead b) ≡ 0
   none_on = on_on R W g (of s.lead b) (λ _. 0) (λ y lo. mark_other (s.lead y) b (leads_none y (c.entries y lo))) ∙ on_zero R W g
@@ -386,7 +386,7 @@ module _ (N R W : ℕ) (s : St) (g : Gh) (c : Sound N R W s g) (w : ℕ) (y : Ba
 
   owned_once : Σ (λ v. owns y.lead (s.batch v)) W ≡ 1
   owned_once =
-      let a = Σ-term (λ v. owns y.lead (s.batch v)) w W hw in
+      let a = Σ_term (λ v. owns y.lead (s.batch v)) w W hw in
       let o : owns y.lead (s.batch w) ≡ 1 = ap (owns y.lead) some ∙ mark_self y.lead in
       let k = c.own_once y.lead in
       omega arith

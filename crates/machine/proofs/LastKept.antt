@@ -2,7 +2,7 @@
 use Rattle.std.proofs.Common.{◌≡◌, ℕ, ◌+◌, ◌-◌, ◌*◌, ◌<◌, ◌≤◌, Some, None, sym, refl, ap, arith}
 use Rattle.machine.specs.declared.states.Batch.{Batch}
 use Rattle.machine.specs.declared.states.Task.TheVariants.{Idle, TryLast}
-use Rattle.machine.proofs.Sums.{upd, Σ, tot, is, upd_other, Σ-upd, Σ-upd₂, Σ-upd₂-at, at_upd, at-upd₂}
+use Rattle.machine.proofs.Sums.{upd, Σ, tot, is, upd_other, Σ_upd, Σ_upd₂, Σ_upd₂_at, at_upd, at_upd₂}
 use Rattle.machine.proofs.Chains.{Chain}
 use Rattle.machine.proofs.Mirror.{St, recount, rebatch}
 use Rattle.machine.proofs.Sound.{Gh, Sound, next, owns, hung_for, due_of, of, on, to_hang, Lead, Own, TaskRight, Alive, AliveBut}
@@ -15,24 +15,24 @@ module _ (N R W : ℕ) (s : St) (g : Gh) (c : Sound N R W s g) (small : R ≤ 32
 
   last_owns : (l : ℕ) → Σ (λ v. owns l (upd s.batch w None v)) W + owns l (Some x) ≡ Σ (λ v. owns l (s.batch v)) W
   last_owns l =
-      let a = Σ-upd (owns l) s.batch w None W hw in
+      let a = Σ_upd (owns l) s.batch w None W hw in
       let d = ap (owns l) eb in
       omega arith
 
   last_hung : (l : ℕ) → Σ (λ v. hung_for l (upd s.batch w None v) (upd s.task w Idle v)) W + hung_for l (Some x) (TryLast hung) ≡ Σ (λ v. hung_for l (s.batch v) (s.task v)) W
   last_hung l =
-      let a = Σ-upd₂ (hung_for l) s.batch s.task w None Idle W hw in
+      let a = Σ_upd₂ (hung_for l) s.batch s.task w None Idle W hw in
       let d : hung_for l (s.batch w) (s.task w) ≡ hung_for l (Some x) (TryLast hung) = rw (e, eb) refl in
       omega arith
 
   last_due : (p : ℕ → ℕ) → to_hang W last g p ≡ to_hang W s g p
   last_due p =
-      let a = Σ-upd₂-at (λ j y t. tot p (due_of g.members (g.rest j) y t)) s.batch s.task w None Idle W hw in
+      let a = Σ_upd₂_at (λ j y t. tot p (due_of g.members (g.rest j) y t)) s.batch s.task w None Idle W hw in
       let d : tot p (due_of g.members (g.rest w) (s.batch w) (s.task w)) ≡ 0 = rw (e, eb) refl in
       omega arith
 
   last_tasks : (v : ℕ) → v < W → TaskRight R s.elder g.members (upd s.batch w None v) (g.rest v) (upd s.task w Idle v)
-  last_tasks v hv = at-upd₂ (λ j y t. TaskRight R s.elder g.members y (g.rest j) t) s.batch s.task w None Idle tt v (λ ne. c.tasks v hv)
+  last_tasks v hv = at_upd₂ (λ j y t. TaskRight R s.elder g.members y (g.rest j) t) s.batch s.task w None Idle tt v (λ ne. c.tasks v hv)
 
   last_even : (l : ℕ) → Lead s l
       → upd s.count x.lead (s.count x.lead + hung - 1024) l + Σ (λ v. hung_for l (upd s.batch w None v) (upd s.task w Idle v)) W

@@ -13,7 +13,7 @@ use Rattle.machine.specs.Living.{FewLive}
 use Rattle.machine.proofs.Chains.{Chain}
 use Rattle.machine.proofs.Sound.{head, next}
 use Rattle.machine.proofs.StepsSound.{reservations, place_below}
-use Rattle.machine.proofs.Potential.{Shape, shape, stage, emptied_hold, weigh, SlotsRight, born, amount, pot, born_living, weigh_most, Σ-most, Σ-change-most}
+use Rattle.machine.proofs.Potential.{Shape, shape, stage, emptied_hold, weigh, SlotsRight, born, amount, pot, born_living, weigh_most, Σ_most, Σ_change_most}
 
 -- the most that the potential of a reservation can be
 abbrev pub most : Form → ℕ
@@ -36,7 +36,7 @@ pub record Loads (form : Form) (k : Core) (len walk : ℕ → ℕ) : Type 0 wher
 pub pot_most : (form : Form) (k : Core) → InOrder form 0 k → FewLive k → ((w : ℕ) → w < form.workers → SlotsRight (shape k) (worker k w).batch (stage (worker k w).task)) → (e r : ℕ) → pot form k e r ≤ most form
 pot_most form k o few slots e r =
     let a = born_living e k.blocks.rows in
-    let b = Σ-most (λ v. weigh form.taking_period k.era (shape k) e r (worker k v)) (form.taking_period + 1) form.workers
+    let b = Σ_most (λ v. weigh form.taking_period k.era (shape k) e r (worker k v)) (form.taking_period + 1) form.workers
     (λ v h. weigh_most form.taking_period k.era (shape k) e r (worker k v) (o.takings v) (slots v h)) in
     let c = few.counted in
     let d = few.few in
@@ -95,7 +95,7 @@ pub pot_falls : (form : Form) (k : Core) (w : ℕ) → w < form.workers → (k' 
     → m + amount (born e) k'.blocks.rows + weigh form.taking_period k'.era (shape k') e r (worker k' w) ≤ n + amount (born e) k.blocks.rows + weigh form.taking_period k.era (shape k) e r (worker k w)
     → m + pot form k' e r ≤ n + pot form k e r
 pot_falls form k w hw k' others weighs m n e r he d =
-    let c = Σ-change-most (λ v. weigh form.taking_period k.era (shape k) e r (worker k v)) (λ v. weigh form.taking_period k'.era (shape k') e r (worker k' v)) w form.workers hw
+    let c = Σ_change_most (λ v. weigh form.taking_period k.era (shape k) e r (worker k v)) (λ v. weigh form.taking_period k'.era (shape k') e r (worker k' v)) w form.workers hw
     (λ v hv nv. subst (λ x. weigh form.taking_period k'.era (shape k') e r x ≤ weigh form.taking_period k.era (shape k) e r (worker k v)) (sym (others v nv)) (weighs v hv nv e r he)) in
     omega arith
 

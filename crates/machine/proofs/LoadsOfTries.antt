@@ -22,7 +22,7 @@ use Rattle.machine.specs.Moves.{Move}
 use Rattle.machine.specs.Trying.{places, is_off, passed_over, hangings, with_slot, block_after, visited, try_visit, with_under, hung_at, hanged, hang_on, try_hang, settled, try_last}
 use Rattle.machine.specs.Walking.{with_count, all_pooled, due}
 use Rattle.machine.proofs.Passing.{by_test}
-use Rattle.machine.proofs.Sums.{upd, tot, mark, is, is_self, is_other, Σ-term, upd_same, upd_other, tot_on}
+use Rattle.machine.proofs.Sums.{upd, tot, mark, is, is_self, is_other, Σ_term, upd_same, upd_other, tot_on}
 use Rattle.machine.proofs.Chains.{Chain, chain_some, chain_upd}
 use Rattle.machine.proofs.Bridge.{Sized, field_kept, field_set}
 use Rattle.machine.proofs.Mirror.{view}
@@ -398,7 +398,7 @@ module _ (form : Form) (fit : Fit form) (k : Core) (inside : List Bool) (sz : Si
       not_on =
           let i = hang_info _ _ _ (view k inside) g c (few_places form fit) w hw b n hung te in
           let a = c.once b in
-          let d = Σ-term (λ v. tot (is b) (due_of g.members (g.rest v) (worker k v).batch (worker k v).task)) w form.workers hw in
+          let d = Σ_term (λ v. tot (is b) (due_of g.members (g.rest v) (worker k v).batch (worker k v).task)) w form.workers hw in
           let f : tot (is b) (due_of g.members (g.rest w) (worker k w).batch (worker k w).task) ≡ tot (is b) (g.rest w) =
           ap (λ z. tot (is b) (due_of g.members (g.rest w) z (worker k w).task)) ex ∙ ap (λ z. tot (is b) (due_of g.members (g.rest w) (Some x) z)) te in
           let h = ap (tot (is b)) i.3 in
@@ -406,10 +406,10 @@ module _ (form : Form) (fit : Fit form) (k : Core) (inside : List Bool) (sz : Si
           omega arith
 
       not_hung : (p : ℕ) → p < reservations form → tot (is b) (g.hung p) ≡ 0
-      not_hung p hp = let a = Σ-term (λ i. tot (is b) (g.hung i)) p (reservations form) hp in let z = not_on in omega arith
+      not_hung p hp = let a = Σ_term (λ i. tot (is b) (g.hung i)) p (reservations form) hp in let z = not_on in omega arith
 
       not_walked : (v : ℕ) → v < form.workers → tot (is b) (g.walk v) ≡ 0
-      not_walked v hv = let a = Σ-term (λ i. tot (is b) (g.walk i)) v form.workers hv in let z = not_on in omega arith
+      not_walked v hv = let a = Σ_term (λ i. tot (is b) (g.walk i)) v form.workers hv in let z = not_on in omega arith
 
       b_low : b < length k.blocks.rows
       b_low =

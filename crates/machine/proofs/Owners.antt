@@ -3,7 +3,7 @@ use Rattle.std.proofs.Common.{◌≡◌, ℕ, ◌*◌, ◌<◌, ◌≤◌, ◌�
 use Rattle.machine.specs.declared.states.Batch.{Batch}
 use Rattle.machine.specs.declared.states.Task.{Task}
 use Rattle.machine.specs.declared.states.Task.TheVariants.{Idle, TakeEra, TakeBlock, LookCell, LookEra, LookList, LookWalk, LookAgain, LookWrite, DropList, DropWalk, DropEra, TryVisit, TryHang, TryLast}
-use Rattle.machine.proofs.Sums.{Σ, Σ-two, Σ-32}
+use Rattle.machine.proofs.Sums.{Σ, Σ_two, Σ_32}
 use Rattle.machine.proofs.Chains.{Chain}
 use Rattle.machine.proofs.Mirror.{St}
 use Rattle.machine.proofs.Sound.{Gh, Sound, owns, hung_of, hung_for, TaskRight, Lead, Own}
@@ -42,7 +42,7 @@ pub slack_of : (R W : ℕ) (elder : ℕ → Option ℕ) (members : ℕ → List 
     → R ≤ 32 → ((w : ℕ) → w < W → TaskRight R elder members (batch w) (rest w) (task w))
     → (l : ℕ) → Σ (λ w. hung_for l (batch w) (task w)) W ≤ 32 * Σ (λ w. owns l (batch w)) W
 slack_of R W elder members batch rest task small ok l =
-    Σ-32 (λ w. hung_for l (batch w) (task w)) (λ w. owns l (batch w)) W
+    Σ_32 (λ w. hung_for l (batch w) (task w)) (λ w. owns l (batch w)) W
     (λ w h. slack_one l (batch w) (task w) (let z = hung_below R elder members (batch w) (rest w) (task w) (ok w h) in omega arith))
 
 module _ (N R W : ℕ) (s : St) (g : Gh) (c : Sound N R W s g) where
@@ -52,7 +52,7 @@ module _ (N R W : ℕ) (s : St) (g : Gh) (c : Sound N R W s g) where
   -- a batch has no second owner
   pub alone : (l w v : ℕ) → w < W → v < W → v ≢ w → owns l (s.batch w) ≡ 1 → owns l (s.batch v) ≡ 0
   alone l w v hw hv ne e =
-      let t = Σ-two (λ i. owns l (s.batch i)) w v W hw hv ne in
+      let t = Σ_two (λ i. owns l (s.batch i)) w v W hw hv ne in
       let o = c.own_once l in
       omega arith
 

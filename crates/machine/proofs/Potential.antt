@@ -269,17 +269,17 @@ weigh_most period now s e r x h o =
     by_way false g = omega arith
 
 -- each of n terms at most m
-pub Σ-most : (f : ℕ → ℕ) (m n : ℕ) → ((i : ℕ) → i < n → f i ≤ m) → Σ f n ≤ n * m
-Σ-most f m zero h = omega arith
-Σ-most f m (suc n) h = let a = h n (omega arith) in let b = Σ-most f m n (λ i l. h i (omega arith)) in omega arith
+pub Σ_most : (f : ℕ → ℕ) (m n : ℕ) → ((i : ℕ) → i < n → f i ≤ m) → Σ f n ≤ n * m
+Σ_most f m zero h = omega arith
+Σ_most f m (suc n) h = let a = h n (omega arith) in let b = Σ_most f m n (λ i l. h i (omega arith)) in omega arith
 
 -- g is at most f but at i
-pub Σ-change-most : (f g : ℕ → ℕ) (i n : ℕ) → i < n → ((j : ℕ) → j < n → j ≢ i → g j ≤ f j) → Σ g n + f i ≤ Σ f n + g i
-Σ-change-most f g i zero h k = absurd (omega arith)
-Σ-change-most f g i (suc n) h k =
+pub Σ_change_most : (f g : ℕ → ℕ) (i n : ℕ) → i < n → ((j : ℕ) → j < n → j ≢ i → g j ≤ f j) → Σ g n + f i ≤ Σ f n + g i
+Σ_change_most f g i zero h k = absurd (omega arith)
+Σ_change_most f g i (suc n) h k =
     elim (ℕ_discrete i n) [
       | yes e ↦ (let c = below n (omega arith) (λ j l. k j (omega arith) (λ z. omega arith)) in rw e (omega arith))
-      | no ne ↦ (let b = Σ-change-most f g i n (omega arith) (λ j l. k j (omega arith)) in let c = k n (omega arith) (λ z. ne (sym z)) in omega arith)
+      | no ne ↦ (let b = Σ_change_most f g i n (omega arith) (λ j l. k j (omega arith)) in let c = k n (omega arith) (λ z. ne (sym z)) in omega arith)
     ]
   where
     below : (m : ℕ) → m ≤ n → ((j : ℕ) → j < m → g j ≤ f j) → Σ g m ≤ Σ f m

@@ -31,7 +31,7 @@ use Rattle.machine.proofs.Standings.{is_pooled}
 use Rattle.machine.specs.BatchSizes.{batched, batch_count, tries, OwnSize, ShortBatches}
 use Rattle.machine.proofs.Passing.{by_test, checked_keeps}
 use Rattle.machine.proofs.StoresByPlace.{set_keeps_at}
-use Rattle.machine.proofs.Sums.{Σ, tot, is, mark, Each, Σ-cong, Σ-term, is_self, each_of, upd_same}
+use Rattle.machine.proofs.Sums.{Σ, tot, is, mark, Each, Σ_cong, Σ_term, is_self, each_of, upd_same}
 use Rattle.machine.proofs.Chains.{Chain, Ends, chain_some, ends_in}
 use Rattle.machine.proofs.Mirror.{view}
 use Rattle.machine.proofs.Sound.{Gh, Sound, TaskRight, Alive, Lead, next, hung_of, owns}
@@ -83,7 +83,7 @@ module _ (form : Form) (fit : Fit form) (k : Core) (inside : List Bool) (sz : Si
   counted l =
       rows_sum l k.blocks.rows
       ∙ ap (Σ (λ b. batched l (block k b))) sz.rows
-      ∙ Σ-cong (λ b. batched l (block k b)) (λ b. tot (is b) (g.members l)) 2048 (λ b _. sym (c.members_are b l))
+      ∙ Σ_cong (λ b. batched l (block k b)) (λ b. tot (is b) (g.members l)) 2048 (λ b _. sym (c.members_are b l))
       ∙ sym (length_by (g.members l) 2048 (each_of (λ b. b < 2048) (g.members l) (λ b m. there_below b l m)))
 
   -- no block of another's batch is given back
@@ -233,7 +233,7 @@ module _ (form : Form) (fit : Fit form) (k : Core) (inside : List Bool) (n : ℕ
               let few : length (h.0.members l) ≤ 2048 = subst (λ m. length (m l) ≤ 2048) (sym h.2) (batch_short form fit k inside sz long same_form g c al w hw l leads) in
               let spent : eqb ((block k l).count - 1) 0 ≡ true = grind (arith, nat_tests) in
               let e : due (count_down k l) l ≡ g.members l = due_count_down k l (h.0.members l) sz below' chain few ∙ ap (λ y. cond y (h.0.members l) []) spent ∙ ap (λ m. m l) h.2 in
-              let none : owns l (worker k v).batch ≡ 0 = let s = Σ-term (λ i. owns l (worker k i).batch) v form.workers hv in omega arith in
+              let none : owns l (worker k v).batch ≡ 0 = let s = Σ_term (λ i. owns l (worker k i).batch) v form.workers hv in omega arith in
               subst (Each (λ i. (block k i).lead ≢ x.lead)) (sym e) (apart form fit k inside sz long same_form g c al w hw l x.lead (not_left l v x ev none)))
           | no ne ↦ subst (Each (λ i. (block k i).lead ≢ x.lead)) (sym (due_none (count_down k l) l (λ z. ne (sym down ∙ z)))) tt
         ]

@@ -17,7 +17,7 @@ use Rattle.machine.specs.Looking.{with_list}
 use Rattle.machine.specs.Walking.{due, count_down, handled}
 use Rattle.machine.specs.Structure.{Follow}
 use Rattle.machine.proofs.Passing.{by_test}
-use Rattle.machine.proofs.Sums.{upd, Σ, tot, mark, is, is_self, Each, Σ-zero, Σ-change, is_other, each_of, upd_same}
+use Rattle.machine.proofs.Sums.{upd, Σ, tot, mark, is, is_self, Each, Σ_zero, Σ_change, is_other, each_of, upd_same}
 use Rattle.machine.proofs.Chains.{Chain, Ends}
 use Rattle.machine.proofs.Mirror.{St, view, retask, rebatch, give, give_all}
 use Rattle.machine.proofs.Sound.{Gh, Sound, TaskRight, Alive, AliveBut, Lead, head, next, hung_of, due_of, owns}
@@ -58,36 +58,36 @@ chain_follows f o (x ∷ y ∷ ys) c = (c.1.0, chain_follows f (f x) (y ∷ ys) 
 abbrev pub Leaves : Form → List Bool → ℕ → Move → Type 0
 Leaves form inside n m = Good form m.core (gained_all (drawn m.taken inside n) m.given)
 
-pub Σ-add : (f h : ℕ → ℕ) (n : ℕ) → Σ (λ i. f i + h i) n ≡ Σ f n + Σ h n
-Σ-add f h zero = refl
-Σ-add f h (suc n) = let b = Σ-add f h n in omega arith
+pub Σ_add : (f h : ℕ → ℕ) (n : ℕ) → Σ (λ i. f i + h i) n ≡ Σ f n + Σ h n
+Σ_add f h zero = refl
+Σ_add f h (suc n) = let b = Σ_add f h n in omega arith
 
-Σ-bound : (f : ℕ → ℕ) (n : ℕ) → ((i : ℕ) → i < n → f i ≤ 1) → Σ f n ≤ n
-Σ-bound f zero h = omega arith
-Σ-bound f (suc n) h = let a = h n (omega arith) in let b = Σ-bound f n (λ i l. h i (omega arith)) in omega arith
+Σ_bound : (f : ℕ → ℕ) (n : ℕ) → ((i : ℕ) → i < n → f i ≤ 1) → Σ f n ≤ n
+Σ_bound f zero h = omega arith
+Σ_bound f (suc n) h = let a = h n (omega arith) in let b = Σ_bound f n (λ i l. h i (omega arith)) in omega arith
 
 -- one place of n counts x
-pub Σ-is : (x n : ℕ) → x < n → Σ (λ b. is b x) n ≡ 1
-Σ-is x n h =
-    let a = Σ-change (λ _. 0) (λ b. is b x) x n h (λ j ne. is_other j x (λ e. ne (sym e))) in
-    let z = Σ-zero n in
+pub Σ_is : (x n : ℕ) → x < n → Σ (λ b. is b x) n ≡ 1
+Σ_is x n h =
+    let a = Σ_change (λ _. 0) (λ b. is b x) x n h (λ j ne. is_other j x (λ e. ne (sym e))) in
+    let z = Σ_zero n in
     let i = is_self x in
     omega arith
 
 -- a list of numbers below n, counted by its values
 pub length_by : (xs : List ℕ) (n : ℕ) → Each (λ x. x < n) xs → length xs ≡ Σ (λ b. tot (is b) xs) n
-length_by [] n u = sym (Σ-zero n)
+length_by [] n u = sym (Σ_zero n)
 length_by (x ∷ xs) n u =
     let a = length_by xs n u.1 in
-    let b = Σ-is x n u.0 in
-    let d = Σ-add (λ b. is b x) (λ b. tot (is b) xs) n in
+    let b = Σ_is x n u.0 in
+    let d = Σ_add (λ b. is b x) (λ b. tot (is b) xs) n in
     omega arith
 
 -- without repetition there are no more than n
 pub pigeon : (xs : List ℕ) (n : ℕ) → Each (λ x. x < n) xs → ((b : ℕ) → tot (is b) xs ≤ 1) → length xs ≤ n
 pigeon xs n u once =
     let a = length_by xs n u in
-    let b = Σ-bound (λ b. tot (is b) xs) n (λ i _. once i) in
+    let b = Σ_bound (λ b. tot (is b) xs) n (λ i _. once i) in
     omega arith
 
 -- giving back does not see tasks

@@ -30,51 +30,51 @@ abbrev pub Each : (ℕ → Type 0) → List ℕ → Type 0
 Each P [] = Unit {0}
 Each P (x ∷ xs) = P x × Each P xs
 
-pub Σ-cong : (f g : ℕ → ℕ) (n : ℕ) → ((i : ℕ) → i < n → f i ≡ g i) → Σ f n ≡ Σ g n
-Σ-cong f g zero h = refl
-Σ-cong f g (suc n) h =
+pub Σ_cong : (f g : ℕ → ℕ) (n : ℕ) → ((i : ℕ) → i < n → f i ≡ g i) → Σ f n ≡ Σ g n
+Σ_cong f g zero h = refl
+Σ_cong f g (suc n) h =
     let a = h n (omega arith) in
-    let b = Σ-cong f g n (λ i k. h i (omega arith)) in
+    let b = Σ_cong f g n (λ i k. h i (omega arith)) in
     omega arith
 
-pub Σ-mono : (f g : ℕ → ℕ) (n : ℕ) → ((i : ℕ) → i < n → f i ≤ g i) → Σ f n ≤ Σ g n
-Σ-mono f g zero h = omega arith
-Σ-mono f g (suc n) h =
+pub Σ_mono : (f g : ℕ → ℕ) (n : ℕ) → ((i : ℕ) → i < n → f i ≤ g i) → Σ f n ≤ Σ g n
+Σ_mono f g zero h = omega arith
+Σ_mono f g (suc n) h =
     let a = h n (omega arith) in
-    let b = Σ-mono f g n (λ i k. h i (omega arith)) in
+    let b = Σ_mono f g n (λ i k. h i (omega arith)) in
     omega arith
 
-pub Σ-zero : (n : ℕ) → Σ (λ _. 0) n ≡ 0
-Σ-zero zero = refl
-Σ-zero (suc n) = let b = Σ-zero n in omega arith
+pub Σ_zero : (n : ℕ) → Σ (λ _. 0) n ≡ 0
+Σ_zero zero = refl
+Σ_zero (suc n) = let b = Σ_zero n in omega arith
 
 -- one term is at most the sum
-pub Σ-term : (f : ℕ → ℕ) (i n : ℕ) → i < n → f i ≤ Σ f n
-Σ-term f i zero h = omega arith
-Σ-term f i (suc n) h =
+pub Σ_term : (f : ℕ → ℕ) (i n : ℕ) → i < n → f i ≤ Σ f n
+Σ_term f i zero h = omega arith
+Σ_term f i (suc n) h =
     elim (ℕ_discrete i n) [
       | yes e ↦ rw e (omega arith)
-      | no ne ↦ let b = Σ-term f i n (omega arith) in omega arith
+      | no ne ↦ let b = Σ_term f i n (omega arith) in omega arith
     ]
 
 -- some term is positive if the sum is
-pub Σ-some : (f : ℕ → ℕ) (n : ℕ) → 1 ≤ Σ f n → (i : ℕ) × (i < n) × (1 ≤ f i)
-Σ-some f zero h = absurd (omega arith)
-Σ-some f (suc n) h = elim (ℕ_discrete (f n) 0) [
-  | yes z ↦ (let r = Σ-some f n (omega arith) in (r.0, omega (arith, r.1), r.2))
+pub Σ_some : (f : ℕ → ℕ) (n : ℕ) → 1 ≤ Σ f n → (i : ℕ) × (i < n) × (1 ≤ f i)
+Σ_some f zero h = absurd (omega arith)
+Σ_some f (suc n) h = elim (ℕ_discrete (f n) 0) [
+  | yes z ↦ (let r = Σ_some f n (omega arith) in (r.0, omega (arith, r.1), r.2))
   | no ne ↦ (n, omega arith, omega arith)
 ]
 
 -- f and g differ at i only
-pub Σ-change : (f g : ℕ → ℕ) (i n : ℕ) → i < n → ((j : ℕ) → j ≢ i → g j ≡ f j) → Σ g n + f i ≡ Σ f n + g i
-Σ-change f g i zero h k = omega arith
-Σ-change f g i (suc n) h k =
+pub Σ_change : (f g : ℕ → ℕ) (i n : ℕ) → i < n → ((j : ℕ) → j ≢ i → g j ≡ f j) → Σ g n + f i ≡ Σ f n + g i
+Σ_change f g i zero h k = omega arith
+Σ_change f g i (suc n) h k =
     elim (ℕ_discrete i n) [
       | yes e ↦
-          let c : Σ g n ≡ Σ f n = Σ-cong g f n (λ j l. k j (omega arith)) in
+          let c : Σ g n ≡ Σ f n = Σ_cong g f n (λ j l. k j (omega arith)) in
           rw e (omega arith)
       | no ne ↦
-          let b = Σ-change f g i n (omega arith) k in
+          let b = Σ_change f g i n (omega arith) k in
           let c = k n (omega arith) in
           omega arith
     ]
@@ -99,50 +99,50 @@ pub is_other : (b x : ℕ) → x ≢ b → is b x ≡ 0
 is_other b x h = grind arith
 
 -- a table of weights, changed at one place
-pub Σ-upd : {A : Type 0} (m : A → ℕ) (f : ℕ → A) (i : ℕ) (v : A) (n : ℕ) → i < n
+pub Σ_upd : {A : Type 0} (m : A → ℕ) (f : ℕ → A) (i : ℕ) (v : A) (n : ℕ) → i < n
     → Σ (λ j. m (upd f i v j)) n + m (f i) ≡ Σ (λ j. m (f j)) n + m v
-Σ-upd m f i v n h =
-    let c = Σ-change (λ j. m (f j)) (λ j. m (upd f i v j)) i n h (λ j k. ap m (upd_other f i v j k)) in
+Σ_upd m f i v n h =
+    let c = Σ_change (λ j. m (f j)) (λ j. m (upd f i v j)) i n h (λ j k. ap m (upd_other f i v j k)) in
     let d = ap m (upd_same f i v) in
     omega arith
 
 -- two tables of weights, changed at one place
-pub Σ-upd₂ : {A B : Type 0} (m : A → B → ℕ) (f : ℕ → A) (g : ℕ → B) (i : ℕ) (v : A) (u : B) (n : ℕ) → i < n
+pub Σ_upd₂ : {A B : Type 0} (m : A → B → ℕ) (f : ℕ → A) (g : ℕ → B) (i : ℕ) (v : A) (u : B) (n : ℕ) → i < n
     → Σ (λ j. m (upd f i v j) (upd g i u j)) n + m (f i) (g i) ≡ Σ (λ j. m (f j) (g j)) n + m v u
-Σ-upd₂ m f g i v u n h =
-    let c = Σ-change (λ j. m (f j) (g j)) (λ j. m (upd f i v j) (upd g i u j)) i n h (λ j k. ap (λ x. m x (upd g i u j)) (upd_other f i v j k) ∙ ap (m (f j)) (upd_other g i u j k)) in
+Σ_upd₂ m f g i v u n h =
+    let c = Σ_change (λ j. m (f j) (g j)) (λ j. m (upd f i v j) (upd g i u j)) i n h (λ j k. ap (λ x. m x (upd g i u j)) (upd_other f i v j k) ∙ ap (m (f j)) (upd_other g i u j k)) in
     let d = ap (λ x. m x (upd g i u i)) (upd_same f i v) ∙ ap (m v) (upd_same g i u) in
     omega arith
 
 -- a weight that the place has a say in
-pub Σ-upd-at : {A : Type 0} (m : ℕ → A → ℕ) (f : ℕ → A) (i : ℕ) (v : A) (n : ℕ) → i < n
+pub Σ_upd_at : {A : Type 0} (m : ℕ → A → ℕ) (f : ℕ → A) (i : ℕ) (v : A) (n : ℕ) → i < n
     → Σ (λ j. m j (upd f i v j)) n + m i (f i) ≡ Σ (λ j. m j (f j)) n + m i v
-Σ-upd-at m f i v n h =
-    let c = Σ-change (λ j. m j (f j)) (λ j. m j (upd f i v j)) i n h (λ j k. ap (m j) (upd_other f i v j k)) in
+Σ_upd_at m f i v n h =
+    let c = Σ_change (λ j. m j (f j)) (λ j. m j (upd f i v j)) i n h (λ j k. ap (m j) (upd_other f i v j k)) in
     let d = ap (m i) (upd_same f i v) in
     omega arith
 
-pub Σ-upd₂-at : {A B : Type 0} (m : ℕ → A → B → ℕ) (f : ℕ → A) (g : ℕ → B) (i : ℕ) (v : A) (u : B) (n : ℕ) → i < n
+pub Σ_upd₂_at : {A B : Type 0} (m : ℕ → A → B → ℕ) (f : ℕ → A) (g : ℕ → B) (i : ℕ) (v : A) (u : B) (n : ℕ) → i < n
     → Σ (λ j. m j (upd f i v j) (upd g i u j)) n + m i (f i) (g i) ≡ Σ (λ j. m j (f j) (g j)) n + m i v u
-Σ-upd₂-at m f g i v u n h =
-    let c = Σ-change (λ j. m j (f j) (g j)) (λ j. m j (upd f i v j) (upd g i u j)) i n h (λ j k. ap (λ x. m j x (upd g i u j)) (upd_other f i v j k) ∙ ap (m j (f j)) (upd_other g i u j k)) in
+Σ_upd₂_at m f g i v u n h =
+    let c = Σ_change (λ j. m j (f j) (g j)) (λ j. m j (upd f i v j) (upd g i u j)) i n h (λ j k. ap (λ x. m j x (upd g i u j)) (upd_other f i v j k) ∙ ap (m j (f j)) (upd_other g i u j k)) in
     let d = ap (λ x. m i x (upd g i u i)) (upd_same f i v) ∙ ap (m i v) (upd_same g i u) in
     omega arith
 
 -- two terms are together at most the sum
-pub Σ-two : (f : ℕ → ℕ) (i j n : ℕ) → i < n → j < n → j ≢ i → f i + f j ≤ Σ f n
-Σ-two f i j n h k ne =
-    let c = Σ-upd (λ x. x) f i 0 n h in
-    let t = Σ-term (upd f i 0) j n k in
+pub Σ_two : (f : ℕ → ℕ) (i j n : ℕ) → i < n → j < n → j ≢ i → f i + f j ≤ Σ f n
+Σ_two f i j n h k ne =
+    let c = Σ_upd (λ x. x) f i 0 n h in
+    let t = Σ_term (upd f i 0) j n k in
     let o = upd_other f i 0 j ne in
     omega arith
 
 -- each term at most 32 times another
-pub Σ-32 : (f g : ℕ → ℕ) (n : ℕ) → ((i : ℕ) → i < n → f i ≤ 32 * g i) → Σ f n ≤ 32 * Σ g n
-Σ-32 f g zero h = omega arith
-Σ-32 f g (suc n) h =
+pub Σ_32 : (f g : ℕ → ℕ) (n : ℕ) → ((i : ℕ) → i < n → f i ≤ 32 * g i) → Σ f n ≤ 32 * Σ g n
+Σ_32 f g zero h = omega arith
+Σ_32 f g (suc n) h =
     let a = h n (omega arith) in
-    let b = Σ-32 f g n (λ i l. h i (omega arith)) in
+    let b = Σ_32 f g n (λ i l. h i (omega arith)) in
     omega arith
 
 -- what holds of v at i and of each other entry holds throughout
@@ -153,9 +153,9 @@ at_upd P f i v h j k =
       | no ne ↦ rw (upd_other f i v j ne) (k ne)
     ]
 
-pub at-upd₂ : {A B : Type 0} (P : ℕ → A → B → Type 0) (f : ℕ → A) (g : ℕ → B) (i : ℕ) (v : A) (u : B) → P i v u
+pub at_upd₂ : {A B : Type 0} (P : ℕ → A → B → Type 0) (f : ℕ → A) (g : ℕ → B) (i : ℕ) (v : A) (u : B) → P i v u
     → (j : ℕ) → (j ≢ i → P j (f j) (g j)) → P j (upd f i v j) (upd g i u j)
-at-upd₂ P f g i v u h j k =
+at_upd₂ P f g i v u h j k =
     elim (ℕ_discrete j i) [
       | yes e ↦ rw e (rw (upd_same f i v, upd_same g i u) h)
       | no ne ↦ rw (upd_other f i v j ne, upd_other g i u j ne) (k ne)
@@ -190,15 +190,15 @@ each_of P [] h = tt
 each_of P (x ∷ xs) h = (h x (let i = is_self x in omega arith), each_of P xs (λ y m. h y (omega arith)))
 
 -- f and g differ below n at i only
-pub Σ-change-in : (f g : ℕ → ℕ) (i n : ℕ) → i < n → ((j : ℕ) → j < n → j ≢ i → g j ≡ f j) → Σ g n + f i ≡ Σ f n + g i
-Σ-change-in f g i zero h k = omega arith
-Σ-change-in f g i (suc n) h k =
+pub Σ_change_in : (f g : ℕ → ℕ) (i n : ℕ) → i < n → ((j : ℕ) → j < n → j ≢ i → g j ≡ f j) → Σ g n + f i ≡ Σ f n + g i
+Σ_change_in f g i zero h k = omega arith
+Σ_change_in f g i (suc n) h k =
     elim (ℕ_discrete i n) [
       | yes e ↦
-          let c : Σ g n ≡ Σ f n = Σ-cong g f n (λ j l. k j (omega arith) (omega arith)) in
+          let c : Σ g n ≡ Σ f n = Σ_cong g f n (λ j l. k j (omega arith) (omega arith)) in
           rw e (omega arith)
       | no ne ↦
-          let b = Σ-change-in f g i n (omega arith) (λ j l. k j (omega arith)) in
+          let b = Σ_change_in f g i n (omega arith) (λ j l. k j (omega arith)) in
           let c = k n (omega arith) (omega arith) in
           omega arith
     ]

@@ -5,7 +5,7 @@ use Rattle.machine.specs.declared.states.HungList.TheVariants.{Off}
 use Rattle.machine.specs.declared.states.Standing.{Standing}
 use Rattle.machine.specs.declared.states.Standing.TheVariants.{Pooled, Live, Retired}
 use Rattle.machine.specs.declared.states.Task.TheVariants.{Idle}
-use Rattle.machine.proofs.Sums.{upd, Σ, tot, mark, is, Σ-cong, Σ-zero, at_upd, at-upd₂}
+use Rattle.machine.proofs.Sums.{upd, Σ, tot, mark, is, Σ_cong, Σ_zero, at_upd, at_upd₂}
 use Rattle.machine.proofs.Mirror.{St, enliven}
 use Rattle.machine.proofs.Sound.{Gh, Sound, Alive, Lead, Own, TaskRight, head, next, owns, due_of, to_hang}
 use Rattle.machine.proofs.Standings.{is_pooled}
@@ -25,15 +25,15 @@ is_pooled_is Retired e = cc
 
 module _ (N R W : ℕ) (s : St) (ins : (b : ℕ) → b < N → s.inside b ≡ true) (pooled : (b : ℕ) → s.standing b ≡ Pooled) (off : (r : ℕ) → s.list r ≡ Off) (idle : (w : ℕ) → s.task w ≡ Idle) (none : (w : ℕ) → s.batch w ≡ None) where
   no_owner : (l : ℕ) → Σ (λ w. owns l (s.batch w)) W ≡ 0
-  no_owner l = Σ-cong (λ w. owns l (s.batch w)) (λ _. 0) W (λ w h. ap (owns l) (none w)) ∙ Σ-zero W
+  no_owner l = Σ_cong (λ w. owns l (s.batch w)) (λ _. 0) W (λ w h. ap (owns l) (none w)) ∙ Σ_zero W
 
   none_due : (p : ℕ → ℕ) → to_hang W s (record { hung = λ _. []; walk = λ _. []; members = λ _. []; rest = λ _. [] }) p ≡ 0
-  none_due p = Σ-cong (λ w. tot p (due_of (λ _. []) [] (s.batch w) (s.task w))) (λ _. 0) W (λ w h. ap (λ o. tot p (due_of (λ _. []) [] o (s.task w))) (none w)) ∙ Σ-zero W
+  none_due p = Σ_cong (λ w. tot p (due_of (λ _. []) [] (s.batch w) (s.task w))) (λ _. 0) W (λ w h. ap (λ o. tot p (due_of (λ _. []) [] o (s.task w))) (none w)) ∙ Σ_zero W
 
   fresh_parts : Sound N R W s (record { hung = λ _. []; walk = λ _. []; members = λ _. []; rest = λ _. [] }) × Alive s
   fresh_parts =
-      let zR = Σ-zero R in
-      let zW = Σ-zero W in (
+      let zR = Σ_zero R in
+      let zW = Σ_zero W in (
         record {
           pooled_in = λ b h. ap is_pooled (pooled b) ∙ sym (ins b h);
           beyond = λ b h. pooled b;
@@ -86,7 +86,7 @@ module _ (N R W : ℕ) (s : St) (g : Gh) (c : Sound N R W s g) (n : ℕ) (hn : n
   pub take_kept : Sound N R W (enliven s n) g × (Alive s → Alive (enliven s n))
   take_kept = (
     record {
-      pooled_in = λ b h. at-upd₂ (λ j v u. j < N → is_pooled v ≡ u) s.standing s.inside n Live false (λ _. refl) b (λ ne. c.pooled_in b) h;
+      pooled_in = λ b h. at_upd₂ (λ j v u. j < N → is_pooled v ≡ u) s.standing s.inside n Live false (λ _. refl) b (λ ne. c.pooled_in b) h;
       beyond = λ b h. at_upd (λ j v. N ≤ j → v ≡ Pooled) s.standing n Live (λ k. absurd (omega arith)) b (λ ne. c.beyond b) h;
       members_are = λ b l. c.members_are b l ∙ ap (λ v. mark (v && eqb (s.lead b) l)) (sym (still b));
       led = λ b e. lead_back (s.lead b) (c.led b (same_then b e));

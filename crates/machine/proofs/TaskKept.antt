@@ -4,7 +4,7 @@ use Rattle.machine.specs.declared.states.Batch.{Batch}
 use Rattle.machine.specs.declared.states.HungList.{HungList}
 use Rattle.machine.specs.declared.states.HungList.TheVariants.{Off}
 use Rattle.machine.specs.declared.states.Task.{Task}
-use Rattle.machine.proofs.Sums.{upd, Σ, tot, is, Σ-cong, Σ-change, Σ-upd, upd_same, upd_other, at_upd, at-upd₂}
+use Rattle.machine.proofs.Sums.{upd, Σ, tot, is, Σ_cong, Σ_change, Σ_upd, upd_same, upd_other, at_upd, at_upd₂}
 use Rattle.machine.proofs.Chains.{Chain, chain_none}
 use Rattle.machine.proofs.Mirror.{St, retask, relist}
 use Rattle.machine.proofs.Sound.{Gh, Sound, TaskRight, head, next, hung_of, hung_for, due, due_of, on, of, to_hang}
@@ -22,7 +22,7 @@ due_of_same ms rs (Some x) t u e = e (ms x.lead) rs
 module _ (N R W : ℕ) (s : St) (g : Gh) (c : Sound N R W s g) (w : ℕ) (hw : w < W) (t : Task) where
   -- the sums over workers after another task that has hung as much
   hung_sum : hung_of t ≡ hung_of (s.task w) → (l : ℕ) → Σ (λ v. hung_for l (s.batch v) (upd s.task w t v)) W ≡ Σ (λ v. hung_for l (s.batch v) (s.task v)) W
-  hung_sum e l = Σ-cong _ _ W (λ v _. hung_for_same l (s.batch v) (upd s.task w t v) (s.task v) (at_upd (λ j x. hung_of x ≡ hung_of (s.task j)) s.task w t e v (λ ne. refl)))
+  hung_sum e l = Σ_cong _ _ W (λ v _. hung_for_same l (s.batch v) (upd s.task w t v) (s.task v) (at_upd (λ j x. hung_of x ≡ hung_of (s.task j)) s.task w t e v (λ ne. refl)))
 
   -- a task with another rest of the batch to come to
   module _ (rs : List ℕ) (same_next : next t ≡ next (s.task w))
@@ -33,7 +33,7 @@ module _ (N R W : ℕ) (s : St) (g : Gh) (c : Sound N R W s g) (w : ℕ) (hw : w
 
     fewer_due : (p : ℕ → ℕ) → to_hang W (retask s w t) moved_on p ≤ to_hang W s g p
     fewer_due p =
-        let d = Σ-change (λ v. tot p (due_of g.members (g.rest v) (s.batch v) (s.task v)))
+        let d = Σ_change (λ v. tot p (due_of g.members (g.rest v) (s.batch v) (s.task v)))
         (λ v. tot p (due_of g.members (upd g.rest w rs v) (s.batch v) (upd s.task w t v))) w W hw
         (λ v ne. ap (λ x. tot p (due_of g.members x (s.batch v) (upd s.task w t v))) (upd_other g.rest w rs v ne)
         ∙ ap (λ x. tot p (due_of g.members (g.rest v) (s.batch v) x)) (upd_other s.task w t v ne)) in
@@ -57,7 +57,7 @@ module _ (N R W : ℕ) (s : St) (g : Gh) (c : Sound N R W s g) (w : ℕ) (hw : w
       walk_chain = λ v hv. at_upd (λ j x. Chain s.under (next x) (g.walk j)) s.task w t (rw same_next (c.walk_chain w hw)) v (λ ne. c.walk_chain v hv);
       once = λ b. let f = fewer_due (is b) in let o = c.once b in omega arith;
       entries = c.entries;
-      tasks = λ v hv. at-upd₂ (λ j x y. TaskRight R s.elder g.members (s.batch j) y x) s.task g.rest w t rs right v (λ ne. c.tasks v hv);
+      tasks = λ v hv. at_upd₂ (λ j x y. TaskRight R s.elder g.members (s.batch j) y x) s.task g.rest w t rs right v (λ ne. c.tasks v hv);
       even = λ l lead. let h = hung_sum same_hung l in let e = c.even l lead in omega arith;
     }
 
@@ -73,13 +73,13 @@ module _ (N R W : ℕ) (s : St) (g : Gh) (c : Sound N R W s g) (w : ℕ) (hw : w
 
     on_same : (p : ℕ → ℕ) → on R W taken_over p ≡ on R W g p
     on_same p =
-        let a = Σ-upd (tot p) g.hung r [] R hr in
-        let b = Σ-upd (tot p) g.walk w (g.hung r) W hw in
+        let a = Σ_upd (tot p) g.hung r [] R hr in
+        let b = Σ_upd (tot p) g.walk w (g.hung r) W hw in
         let d = ap (tot p) was_empty in
         omega arith
 
     due_same : (p : ℕ → ℕ) → to_hang W (retask (relist s r l) w t) taken_over p ≡ to_hang W s g p
-    due_same p = Σ-cong _ _ W (λ v _. at_upd (λ j x. tot p (due_of g.members (g.rest j) (s.batch j) x) ≡ tot p (due_of g.members (g.rest j) (s.batch j) (s.task j))) s.task w t
+    due_same p = Σ_cong _ _ W (λ v _. at_upd (λ j x. tot p (due_of g.members (g.rest j) (s.batch j) x) ≡ tot p (due_of g.members (g.rest j) (s.batch j) (s.task j))) s.task w t
         (ap (tot p) (due_of_same g.members (g.rest w) (s.batch w) t (s.task w) same_due)) v (λ ne. refl))
 
     pub detach_kept : Sound N R W (retask (relist s r l) w t) taken_over
@@ -92,9 +92,9 @@ module _ (N R W : ℕ) (s : St) (g : Gh) (c : Sound N R W s g) (w : ℕ) (hw : w
       own = c.own;
       own_once = c.own_once;
       left = c.left;
-      hung_chain = λ q hq. at-upd₂ (λ j x y. Chain s.under (head x) y) s.list g.hung r l [] no_head q (λ ne. c.hung_chain q hq);
+      hung_chain = λ q hq. at_upd₂ (λ j x y. Chain s.under (head x) y) s.list g.hung r l [] no_head q (λ ne. c.hung_chain q hq);
       lists_beyond = λ q le. at_upd (λ j x. R ≤ j → x ≡ Off) s.list r l (λ k. absurd (omega arith)) q (λ ne k. c.lists_beyond q k) le;
-      walk_chain = λ v hv. at-upd₂ (λ j x y. Chain s.under (next x) y) s.task g.walk w t (g.hung r) (rw walks (c.hung_chain r hr)) v (λ ne. c.walk_chain v hv);
+      walk_chain = λ v hv. at_upd₂ (λ j x y. Chain s.under (next x) y) s.task g.walk w t (g.hung r) (rw walks (c.hung_chain r hr)) v (λ ne. c.walk_chain v hv);
       once = λ b. let a = on_same (is b) in let d = due_same (is b) in let o = c.once b in omega arith;
       entries = λ b m. c.entries b (let a = on_same (is b) in omega arith);
       tasks = λ v hv. at_upd (λ j x. TaskRight R s.elder g.members (s.batch j) (g.rest j) x) s.task w t right v (λ ne. c.tasks v hv);

@@ -10,7 +10,7 @@ use Rattle.machine.specs.declared.states.Core.{Core}
 use Rattle.machine.specs.State.{block, worker, reservation}
 use Rattle.machine.specs.Trying.{places}
 use Rattle.machine.specs.Batches.{newest_on, walking, Met, here, there, Hangs, Waits}
-use Rattle.machine.proofs.Sums.{Σ, tot, is, is_self, Σ-some, Σ-term}
+use Rattle.machine.proofs.Sums.{Σ, tot, is, is_self, Σ_some, Σ_term}
 use Rattle.machine.proofs.Chains.{Chain}
 use Rattle.machine.proofs.Mirror.{view}
 use Rattle.machine.proofs.Sound.{Gh, Sound, Alive, head, next, owns, hung_for, on, of}
@@ -79,9 +79,9 @@ module _ (k : Core) where
     -- what is on a list or a walk hangs
     entry_hangs : (p : ℕ → ℕ) → 1 ≤ on R W g p → (b : ℕ) × (1 ≤ p b) × Hangs k b
     entry_hangs p h = elim (ℕ_discrete (Σ (λ r. tot p (g.hung r)) R) 0) [
-      | yes z ↦ (let i = Σ-some (λ w. tot p (g.walk w)) W (omega arith) in let e = tot_some p (g.walk i.0) i.2 in
+      | yes z ↦ (let i = Σ_some (λ w. tot p (g.walk w)) W (omega arith) in let e = tot_some p (g.walk i.0) i.2 in
           (e.0, e.2, inr (i.0, subst (λ m. i.0 < m) eW i.1, chain_met _ (g.walk i.0) e.0 (subst (λ o. Chain (λ b. (block k b).under) o (g.walk i.0)) (next_is (worker k i.0).task) (c.walk_chain i.0 i.1)) e.1)))
-      | no ne ↦ (let i = Σ-some (λ r. tot p (g.hung r)) R (omega arith) in let e = tot_some p (g.hung i.0) i.2 in
+      | no ne ↦ (let i = Σ_some (λ r. tot p (g.hung r)) R (omega arith) in let e = tot_some p (g.hung i.0) i.2 in
           (e.0, e.2, inl (i.0, subst (λ m. i.0 < m) eR i.1, chain_met _ (g.hung i.0) e.0 (subst (λ o. Chain (λ b. (block k b).under) o (g.hung i.0)) (head_is (reservation k i.0).list) (c.hung_chain i.0 i.1)) e.1)))
     ]
 
@@ -91,13 +91,13 @@ module _ (k : Core) where
         let r = h.0 in
         let hr : r < R = subst (λ m. r < m) (sym eR) h.1 in
         let m = met_in _ (g.hung r) b (c.hung_chain r hr) (subst (λ o. Met k o b) (sym (head_is (reservation k r).list)) h.2) in
-        let t = Σ-term (λ q. tot (is b) (g.hung q)) r R hr in
+        let t = Σ_term (λ q. tot (is b) (g.hung q)) r R hr in
         omega arith
     hangs_entry b (inr h) =
         let w = h.0 in
         let hw : w < W = subst (λ m. w < m) (sym eW) h.1 in
         let m = met_in _ (g.walk w) b (c.walk_chain w hw) (subst (λ o. Met k o b) (sym (next_is (worker k w).task)) h.2) in
-        let t = Σ-term (λ q. tot (is b) (g.walk q)) w W hw in
+        let t = Σ_term (λ q. tot (is b) (g.walk q)) w W hw in
         omega arith
 
     pub waits : Waits k
@@ -113,7 +113,7 @@ module _ (k : Core) where
                 let h = entry_hangs (of (λ x. (block k x).lead) l) (omega arith) in
                 inr (h.0, (let m = h.1 in elim (ℕ_discrete (block k h.0).lead l) [ yes i ↦ i | no ne ↦ absurd (grind arith) ]), h.2))
             | no ne ↦
-                (let i = Σ-some (λ w. owns l (worker k w).batch) W (omega arith) in
+                (let i = Σ_some (λ w. owns l (worker k w).batch) W (omega arith) in
                 let o = owner_is l (worker k i.0).batch i.2 in
                 inl (i.0, subst (λ m. i.0 < m) eW i.1, o.0, o.1, o.2))
           ];

@@ -4,7 +4,7 @@ use native.Mathlib.Decide.{ℕ_discrete}
 use Rattle.machine.specs.declared.states.Batch.{Batch}
 use Rattle.machine.specs.declared.states.Task.{Task}
 use Rattle.machine.specs.declared.states.Task.TheVariants.{Idle, TakeEra, TakeBlock, LookCell, LookEra, LookList, LookWalk, LookAgain, LookWrite, DropList, DropWalk, DropEra, TryVisit, TryHang, TryLast}
-use Rattle.machine.proofs.Sums.{upd, Σ, tot, is, Σ-cong, Σ-upd, upd_same, upd_other, at_upd, at-upd₂, is_self, is_other}
+use Rattle.machine.proofs.Sums.{upd, Σ, tot, is, Σ_cong, Σ_upd, upd_same, upd_other, at_upd, at_upd₂, is_self, is_other}
 use Rattle.machine.proofs.Chains.{Chain, chain_some}
 use Rattle.machine.proofs.Mirror.{St, retask, recount}
 use Rattle.machine.proofs.Owners.{slack}
@@ -60,7 +60,7 @@ module _ (N R W : ℕ) (s : St) (g : Gh) (c : Sound N R W s g) (small : R ≤ 32
     (right : TaskRight R s.elder g.members (s.batch w) (g.rest w) t) where
   on_walked : (p : ℕ → ℕ) → on R W (walked g w bs) p + p b ≡ on R W g p
   on_walked p =
-      let a = Σ-upd (tot p) g.walk w bs W hw in
+      let a = Σ_upd (tot p) g.walk w bs W hw in
       let d = ap (tot p) eb in
       omega arith
 
@@ -68,12 +68,12 @@ module _ (N R W : ℕ) (s : St) (g : Gh) (c : Sound N R W s g) (small : R ≤ 32
   walked_lead = c.led b (c.entries b (let o = on_walked (is b) in let i = is_self b in omega arith))
 
   walked_hung : (l : ℕ) → Σ (λ v. hung_for l (s.batch v) (upd s.task w t v)) W ≡ Σ (λ v. hung_for l (s.batch v) (s.task v)) W
-  walked_hung l = Σ-cong (λ v. hung_for l (s.batch v) (upd s.task w t v)) (λ v. hung_for l (s.batch v) (s.task v)) W
+  walked_hung l = Σ_cong (λ v. hung_for l (s.batch v) (upd s.task w t v)) (λ v. hung_for l (s.batch v) (s.task v)) W
       (λ v hv. at_upd (λ j x. hung_for l (s.batch j) x ≡ hung_for l (s.batch j) (s.task j)) s.task w t
       (hung_alike l (s.batch w) (s.task w) t (walking_plain (s.task w) b e).0 ht) v (λ ne. refl))
 
   walked_due : (p : ℕ → ℕ) → to_hang W (walk_on s w b t) (walked g w bs) p ≡ to_hang W s g p
-  walked_due p = Σ-cong (λ v. tot p (due_of g.members (g.rest v) (s.batch v) (upd s.task w t v))) (λ v. tot p (due_of g.members (g.rest v) (s.batch v) (s.task v))) W
+  walked_due p = Σ_cong (λ v. tot p (due_of g.members (g.rest v) (s.batch v) (upd s.task w t v))) (λ v. tot p (due_of g.members (g.rest v) (s.batch v) (s.task v))) W
       (λ v hv. at_upd (λ j x. tot p (due_of g.members (g.rest j) (s.batch j) x) ≡ tot p (due_of g.members (g.rest j) (s.batch j) (s.task j))) s.task w t
       (ap (tot p) (due_alike g.members (g.rest w) (s.batch w) (s.task w) t (walking_plain (s.task w) b e).1 pt)) v (λ ne. refl))
 
@@ -110,7 +110,7 @@ module _ (N R W : ℕ) (s : St) (g : Gh) (c : Sound N R W s g) (small : R ≤ 32
             (λ i. rw i (c.left l ll z)) l (λ ne i. c.left l ll z) refl;
         hung_chain = c.hung_chain;
         lists_beyond = c.lists_beyond;
-        walk_chain = λ v hv. at-upd₂ (λ j x y. Chain s.under (next x) y) s.task g.walk w t bs
+        walk_chain = λ v hv. at_upd₂ (λ j x y. Chain s.under (next x) y) s.task g.walk w t bs
             (rw et cb) v (λ ne. c.walk_chain v hv);
         once = λ x. let n = walked_due (is x) in let m = on_walked (is x) in let o = c.once x in omega arith;
         entries = λ x lo. c.entries x (let m = on_walked (is x) in omega arith);
