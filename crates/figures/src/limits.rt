@@ -86,7 +86,6 @@ impl Form {
     pub fn fits(&self, figure: Figure) -> bool
         ensures { Decides result (Fits self.now figure) }
     {
-        let value = self.value(figure);
-        1 <= value && value <= self.most(figure)
+        (1..=self.most(figure)).contains(&self.value(figure))
     }
 }

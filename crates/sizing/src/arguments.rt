@@ -31,15 +31,12 @@ fn number_for(word: &str, figure: Figure) -> Result<u16, Complaint>
     requires { most_asked figure < 65536 }
     ensures { MatchResult result (λ n. Good word.now figure n) (λ complaint. (complaint ≡ Unfit figure) × Bad word.now figure) }
 {
-    let n = match word.parse::<u16>() {
-        Ok(n) => n,
-        Err(_) => return Err(Complaint::Unfit(figure)),
-    };
-    if 1 <= n && u32::from(n) <= LARGEST.most(figure) {
-        Ok(n)
-    } else {
-        Err(Complaint::Unfit(figure))
+    let unfit = Complaint::Unfit(figure);
+    let n = word.parse::<u16>().map_err(|_| unfit)?;
+    if !(1..=LARGEST.most(figure)).contains(&u32::from(n)) {
+        return Err(unfit);
     }
+    Ok(n)
 }
 
 // The figures that five words say, in the order W H M F G.
