@@ -17,6 +17,7 @@ impl From<Refusal> for Fault {
     ghost from_gives = { λ refusal r. r ≡ fault refusal };
 
     fn from(refusal: Refusal) -> Fault {
+        // A `match`: a variant that carries something is no number by `as`.
         let number = match refusal {
             Refusal::Misfit(_) => 1,
         };

@@ -54,6 +54,7 @@ pub enum Value<R> {
 }
 
 // Whether the worker's task goes on, the value, and how many blocks were given back to the pool.
+// A flag with a value beside it: what a keeper answers is these three by a rule of the project.
 #[derive(Clone, Copy)]
 pub struct Answer<R> {
     pub goes_on: bool,

@@ -56,6 +56,7 @@ impl From<KeeperFault> for Fault {
     ghost from_gives = { λ refused r. r ≡ fault refused };
 
     fn from(refused: KeeperFault) -> Fault {
+        // A `match`: a variant that carries something, as `Dry` does, is no number by `as`.
         let number = match refused.refusal {
             Refusal::Misfit => 1,
             Refusal::Stranger => 2,

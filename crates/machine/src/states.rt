@@ -48,13 +48,14 @@ impl Block {
     };
 }
 
-// The blocks by number.
+// The blocks by number, and with numbers for what one names: memory is fixed and there is no heap, so no `Vec` and no `Box`.
 #[derive(Drop)]
 pub struct BlockTable {
     pub rows: [Block; 2048],
 }
 
-// The list of a reservation: off, empty, or the newest block that hangs on it.
+// The list of a reservation: off, empty, or the newest block that hangs on it. Not an `Option` within an `Option`: the names say
+// which of two kinds of nothing is meant.
 #[derive(Clone, Copy)]
 pub enum HungList {
     Off,
@@ -79,7 +80,8 @@ pub struct Batch {
     pub least: u32,
 }
 
-// A worker's task and the step that its next turn does.
+// A worker's task and the step that its next turn does: plain numbers, by a rule of the project, so no types for a hold and a cell
+// that go together.
 #[derive(Clone, Copy)]
 pub enum Task {
     Idle,

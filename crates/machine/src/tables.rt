@@ -13,22 +13,13 @@ impl BlockTable {
         let Some(&old) = self.rows.get(block as usize) else {
             return;
         };
-        self.rows[block as usize] = match batch {
-            None => Block {
-                standing: Standing::Retired,
-                owner: None,
-                elder: None,
-                lead,
-                count: 1024,
-                ..old
-            },
-            Some(own) => Block {
-                standing: Standing::Retired,
-                owner: None,
-                elder: Some(own.newest),
-                lead,
-                ..old
-            },
+        self.rows[block as usize] = Block {
+            standing: Standing::Retired,
+            owner: None,
+            elder: batch.map(|own| own.newest),
+            lead,
+            count: batch.map_or(1024, |_| old.count),
+            ..old
         };
     }
 }

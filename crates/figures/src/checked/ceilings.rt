@@ -40,6 +40,7 @@ impl Figures {
         ensures test { Decides result (NoneLarger other.now.form self.now.form) }
         ensures never_falls { NeverFalls }
     {
+        // No derived order: that compares the first figures that differ, and no others.
         let one = other.form;
         let form = self.form;
         one.workers <= form.workers
