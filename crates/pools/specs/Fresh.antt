@@ -1,5 +1,5 @@
 -- The making of a pool.
-use Rattle.std.specs.Prelude.{◌≡◌, ℕ, ◌<◌, ◌≤◌, Bool, true, false, ◌⊎◌, List, replicate, Ok, Err, Result, nat_lt, slice_index, slice_index_or}
+use Rattle.std.specs.Prelude.{◌≡◌, ℕ, ◌<◌, ◌≤◌, Bool, true, ◌⊎◌, List, replicate, Ok, Err, Result, slice_index}
 use Rattle.std.specs.List.{range_with_len}
 use Rattle.pools.specs.declared.PoolFault.{PoolFault}
 use Rattle.pools.specs.declared.PoolFault.TheVariants.{Misfit}
@@ -12,10 +12,9 @@ Fitting size = (1 ≤ size) × (size ≤ 2048)
 abbrev pub Misfitting : ℕ → PoolFault → Type 0
 Misfitting size refusal = (refusal ≡ Misfit) × ((size ≡ 0) ⊎ (2048 < size))
 
--- the arrays of a fresh pool: each number at its own place, and in if it is below the size
-abbrev pub Fresh : ℕ → List ℕ → List Bool → Type 0
-Fresh size spots ins =
-    Fitting size × ((k : ℕ) → k < 2048 → (slice_index spots k ≡ k) × (slice_index_or ins k false ≡ nat_lt k size))
+-- each number below 2,048 stands at its own place
+abbrev pub OwnPlaces : List ℕ → Type 0
+OwnPlaces spots = (k : ℕ) → k < 2048 → slice_index spots k ≡ k
 
 -- a made pool has all numbers in, and hands them out from 0 on
 abbrev pub Made : {P : Type 0} → (P → List Bool) → (P → List ℕ) → ℕ → Result P PoolFault → Type 0

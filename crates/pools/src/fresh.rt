@@ -1,21 +1,12 @@
-// What both pools are made of.
-ghost use Rattle.pools.specs.Fresh.{Fresh, Misfitting};
-ghost use Rattle.std.specs.Result.{MatchResult};
+// What both pools begin with.
+ghost use Rattle.pools.specs.Fresh.{OwnPlaces};
 
-use crate::{LARGEST, PoolFault};
+use crate::LARGEST;
+use std::array;
 
-// Each number at its own place, and whether it is in a fresh pool of this size.
-pub fn fresh(size: u16) -> Result<([u16; LARGEST], [bool; LARGEST]), PoolFault>
-    ensures { MatchResult result (λ made. Fresh size made.0 made.1) (λ refusal. Misfitting size refusal) }
+// Each number at its own place.
+pub(crate) fn own_places() -> [u16; LARGEST]
+    ensures { OwnPlaces result }
 {
-    if size == 0 || size as usize > LARGEST {
-        return Err(PoolFault::Misfit);
-    }
-    let mut spots = [0; LARGEST];
-    let mut ins = [false; LARGEST];
-    for number in 0..LARGEST {
-        spots[number] = number as u16;
-        ins[number] = number < size as usize;
-    }
-    Ok((spots, ins))
+    array::from_fn(|place| place as u16)
 }

@@ -2,6 +2,7 @@
 #![tactic(auto)]
 
 mod fresh;
+mod numbers;
 mod row;
 mod stack;
 
@@ -32,6 +33,8 @@ impl From<PoolFault> for Fault {
     ghost from_gives = { λ refusal r. r ≡ fault refusal };
 
     fn from(refusal: PoolFault) -> Fault {
+        // A `match`, and not discriminants of the enum: those must differ, so a program that gives two refusals one number,
+        // as an edit of must-fail/ does, could not even be written.
         let number = match refusal {
             PoolFault::Misfit => 1,
             PoolFault::NoneIn => 17,

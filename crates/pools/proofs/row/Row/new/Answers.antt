@@ -1,29 +1,14 @@
 use Rattle.std.proofs.Common.{arith}
-use Rattle.pools.specs.CountsLemmas.{all_in}
 use Rattle.pools.specs.OrdersLemmas.{listed_fresh}
 use Rattle.pools.proofs.Rings.{ring_fresh}
 use Rattle.pools.proofs.row.Row.new.Goals as goal
 
-pub invariant_of-result : goal.invariant_of-result
-invariant_of-result c =
-    let n = c.args.size in
-    let spots = c.in_ok-spots.spots in
-    let ins = c.in_ok-spots.ins in
-    let made = c.in_ok-spots.ensures in record {
-      fits = omega (arith, made.0);
-      listed =
-          listed_fresh n _ _
-          (ring_fresh spots 0 n (λ k h. (made.1 k h).0) (omega (arith, made.0)))
-          (all_in n ins (omega (arith, made.0)) (λ k h. (made.1 k (omega (arith, made.0))).1));
-    }
+pub invariant_of-result-clause-listed : goal.invariant_of-result-clause-listed
+invariant_of-result-clause-listed c =
+    let made = c.in_ok-new.ensures in
+    listed_fresh c.args.size _ _ (ring_fresh c.own_places.result 0 c.args.size c.own_places.ensures (omega (arith, made.0))) made.1
 
 pub returns : goal.returns
 returns c =
-    let n = c.args.size in
-    let spots = c.in_ok-spots.spots in
-    let ins = c.in_ok-spots.ins in
-    let made = c.in_ok-spots.ensures in (
-      made.0,
-      all_in n ins (omega (arith, made.0)) (λ k h. (made.1 k (omega (arith, made.0))).1),
-      ring_fresh spots 0 n (λ k h. (made.1 k h).0) (omega (arith, made.0)),
-    )
+    let made = c.in_ok-new.ensures in
+    (made.0, made.1, ring_fresh c.own_places.result 0 c.args.size c.own_places.ensures (omega (arith, made.0)))

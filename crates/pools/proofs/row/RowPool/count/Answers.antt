@@ -1,6 +1,6 @@
 use Rattle.std.proofs.Common.{arith}
 use Rattle.pools.proofs.Rings.{length_ringed}
-use Rattle.pools.proofs.row.moves.RowPool.count.Goals as goal
+use Rattle.pools.proofs.row.RowPool.count.Goals as goal
 
 pub returns : goal.returns
 returns c =
