@@ -1,8 +1,7 @@
 -- One more move of a run.
 use Rattle.std.proofs.Common.{◌≡◌, Bool, List, [], ◌∷◌, ◌++◌, sym, refl, ap, ◌∙◌, subst}
 use Rattle.pool_runs.specs.declared.moves.Move.{Move}
-use Rattle.pool_runs.specs.declared.moves.Answer.{Answer}
-use Rattle.pool_runs.specs.Runs.{Right, after, Answered, ends}
+use Rattle.pool_runs.specs.Runs.{Answer, Right, after, Answered, ends}
 
 pub answered_more : (inside : List Bool) (ms : List Move) (rs : List Answer) (m : Move) (r : Answer)
     → Answered inside ms rs → Right (ends inside ms rs) m r → Answered inside (ms ++ m ∷ []) (rs ++ r ∷ [])
@@ -23,15 +22,13 @@ abbrev pub Going : List Bool → List Move → List Answer → List Bool → Typ
 Going inside ms rs now = Answered inside ms rs × (now ≡ ends inside ms rs)
 
 pub going_none : (inside : List Bool) (rs : List Answer) → rs ≡ [] → Going inside [] rs inside
-going_none inside rs e = (subst (λ q. Answered inside [] q) (sym e) tt, refl)
+going_none inside rs e = rw e (tt, refl)
 
 -- one more move, as the loop has it
 pub going_more : (inside : List Bool) (ms ms' : List Move) (rs rs' : List Answer) (m : Move) (r : Answer) (now now' : List Bool)
     → Going inside ms rs now → ms' ≡ ms ++ m ∷ [] → rs' ≡ rs ++ r ∷ [] → Right now m r → now' ≡ after now m r → Going inside ms' rs' now'
 going_more inside ms ms' rs rs' m r now now' g em er right e =
-    let here : Right (ends inside ms rs) m r = subst (λ bs. Right bs m r) g.1 right in
-    let all = answered_more inside ms rs m r g.0 here in (
-      subst (λ q. Answered inside q rs') (sym em) (subst (λ q. Answered inside (ms ++ m ∷ []) q) (sym er) all),
-      e ∙ ap (λ bs. after bs m r) g.1 ∙ sym (ends_more inside ms rs m r g.0)
-          ∙ ap (λ q. ends inside q (rs ++ r ∷ [])) (sym em) ∙ ap (λ q. ends inside ms' q) (sym er),
+    rw (em, er) (
+      answered_more inside ms rs m r g.0 (subst (λ bs. Right bs m r) g.1 right),
+      e ∙ ap (λ bs. after bs m r) g.1 ∙ sym (ends_more inside ms rs m r g.0),
     )

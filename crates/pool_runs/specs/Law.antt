@@ -2,8 +2,7 @@
 use Rattle.std.specs.Prelude.{◌≡◌, ℕ, ◌+◌, Bool, false, List, [], length, take, nat_lt, slice_index_or}
 use Rattle.pools.specs.Counts.{bit, tally, times}
 use Rattle.pool_runs.specs.declared.moves.Move.{Move}
-use Rattle.pool_runs.specs.declared.moves.Answer.{Answer}
-use Rattle.pool_runs.specs.Runs.{Answered, ends, outstanding}
+use Rattle.pool_runs.specs.Runs.{Answer, Answered, ends, outstanding}
 
 -- the numbers that are in, together with those listed as out, are each number of the pool exactly once, and no other
 abbrev pub EachOnce : List Bool → List ℕ → Type 0

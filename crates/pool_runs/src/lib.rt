@@ -8,5 +8,5 @@ mod plays;
 mod tests;
 
 pub use circuit::circulate;
-pub use moves::{Answer, Move};
+pub use moves::{Move, Outcome};
 pub use plays::play;

@@ -11,27 +11,23 @@ pub enum Move {
     Give(u16),
 }
 
-// What a move answers: the number handed out, that the number was taken back, or why neither.
+// What a move comes to: the number handed out, or that the number was taken back.
 #[derive(Clone, Copy, PartialEq, Eq, Debug)]
-pub enum Answer {
+pub enum Outcome {
     HandedOut(u16),
     TakenBack,
-    Refused(PoolFault),
 }
 
-// Makes one move.
-pub fn step<P: Pool>(pool: &mut P, turn: Move) -> Answer
+// Makes one move, and answers what it comes to, or why it is refused.
+pub fn step<P: Pool>(pool: &mut P, turn: Move) -> Result<Outcome, PoolFault>
     ensures right { Right (P.Pool.inside pool.old) turn result }
     ensures leaves { P.Pool.inside pool.new ≡ after (P.Pool.inside pool.old) turn result }
 {
     match turn {
-        Move::Take => match pool.take() {
-            Ok(number) => Answer::HandedOut(number),
-            Err(refusal) => Answer::Refused(refusal),
-        },
-        Move::Give(number) => match pool.give(number) {
-            Ok(()) => Answer::TakenBack,
-            Err(refusal) => Answer::Refused(refusal),
-        },
+        Move::Take => Ok(Outcome::HandedOut(pool.take()?)),
+        Move::Give(number) => {
+            pool.give(number)?;
+            Ok(Outcome::TakenBack)
+        }
     }
 }

@@ -1,6 +1,6 @@
 // Both pools by example, and the runs over both.
 use crate::circuit::circulate;
-use crate::moves::{Answer, Move};
+use crate::moves::{Move, Outcome};
 use crate::plays::play;
 use pools::{Pool, PoolFault, Row, Stack};
 use std::process::Abort;
@@ -126,12 +126,12 @@ fn a_run_is_answered_move_by_move(rt: HostRuntime) -> Result<(), Fail> {
         Move::Take,
     ];
     let answers = [
-        Answer::HandedOut(0),
-        Answer::HandedOut(1),
-        Answer::Refused(PoolFault::NoneIn),
-        Answer::TakenBack,
-        Answer::Refused(PoolFault::NotOut),
-        Answer::HandedOut(0),
+        Ok(Outcome::HandedOut(0)),
+        Ok(Outcome::HandedOut(1)),
+        Err(PoolFault::NoneIn),
+        Ok(Outcome::TakenBack),
+        Err(PoolFault::NotOut),
+        Ok(Outcome::HandedOut(0)),
     ];
     assert_eq!(rt;
         play(rt.alloc(), &mut Stack::new(2)?, &moves)?.as_slice(),

@@ -1,18 +1,10 @@
-use Rattle.std.proofs.Common.{◌≡◌, ◌+◌, ◌<◌, length, drop, vec_items, vec_len, vec_capacity, sym, ap, ◌∙◌, arith}
-use Rattle.std.proofs.lemmas.List.{at_drop_more, at_drop_all}
+use Rattle.std.proofs.Common.{◌≡◌, ◌<◌, length, vec_items, vec_len, vec_capacity, sym, ap, ◌∙◌, arith}
+use Rattle.std.proofs.lemmas.List.{at_drop_all}
 use Rattle.pools.specs.Counts.{tally}
 use Rattle.pools.proofs.Moves.{taken_some}
-use Rattle.pool_runs.proofs.Draws.{drew_none, drew_more, returned, drew_back}
+use Rattle.pool_runs.proofs.Draws.{drew_more, returned, drew_back}
 use Rattle.pool_runs.proofs.circuit.circulate.Goals as goal
 use Rattle.pool_runs.proofs.circuit.circulate.Goals.{in-Ok, in_default}
-
-pub loop-init : goal.loop-init
-loop-init g c =
-    let v = c.in_ok-numbers.ensures in
-    (v.len, v.capacity, drew_none _ _ v.items)
-
-pub push_reserved-requires : goal.push_reserved-requires
-push_reserved-requires g c = omega arith
 
 pub loop-preserved : goal.loop-preserved
 loop-preserved g c =
@@ -34,15 +26,6 @@ loop-preserved g c =
           let some : 0 < tally now = omega arith in
           absurd (w.in_default.not-Ok next (c.take.ensures.answer ∙ sym (taken_some now next some)))
     ]
-
-pub loop-number-preserved : goal.loop-number-preserved
-loop-number-preserved g c =
-    let l = c.loop-number in
-    let items = c.deref-number-items.result.now in
-    let i = l.number-index in
-    let now = g.P.Pool.inside l.pool in
-    sym (at_drop_more (returned now) items i 0 c.loop-number-test.true
-    ∙ ap (λ bs. returned bs (drop (i + 1) items)) (sym c.give.ensures.leaves)) ∙ l.invariant
 
 pub returns : goal.returns
 returns g c =

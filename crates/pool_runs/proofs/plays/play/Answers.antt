@@ -1,14 +1,9 @@
 use Rattle.std.proofs.Common.{◌≡◌, ◌<◌, [], length, get_or, take, vec_items, subst, arith}
 use Rattle.std.proofs.lemmas.List.{take_more, take_all}
 use Rattle.pool_runs.specs.declared.moves.Move.TheVariants.{Take}
-use Rattle.pool_runs.proofs.Runs.{Going, going_none, going_more}
+use Rattle.pool_runs.proofs.Runs.{Going, going_more}
 use Rattle.pool_runs.proofs.Accounts.{throughout, once_full}
 use Rattle.pool_runs.proofs.plays.play.Goals as goal
-
-pub loop-turn-init : goal.loop-turn-init
-loop-turn-init g c =
-    let v = c.in_ok-answers.ensures in
-    (v.len, v.capacity, going_none _ _ v.items)
 
 pub loop-turn-preserved : goal.loop-turn-preserved
 loop-turn-preserved g c =
