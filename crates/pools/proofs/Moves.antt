@@ -19,7 +19,7 @@ pub taken_ok : (inside : List Bool) (next n : ℕ) → Ok n ≡ taken inside nex
 taken_ok inside next n e = (grind (arith, nat_tests), grind (arith, nat_tests))
 
 -- a give that was not refused
-pub given_ok : (inside : List Bool) (n : ℕ) → Ok tt ≡ given inside n → (n < length inside) × (get_or inside n false ≡ false)
+given_ok : (inside : List Bool) (n : ℕ) → Ok tt ≡ given inside n → (n < length inside) × (get_or inside n false ≡ false)
 given_ok inside n e = (grind (arith, nat_tests), grind (arith, nat_tests))
 
 -- the first of the order went out
