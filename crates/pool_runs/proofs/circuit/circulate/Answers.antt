@@ -12,15 +12,16 @@ loop-preserved g c =
     let now = g.P.Pool.inside l.pool in
     let next = g.P.Pool.next l.pool in
     elim c.match-take.branch [
-      | in-Ok w ↦ (
-        omega (arith, ap vec_len w.numbers-is, w.push_reserved.ensures.len),
-        omega (arith, ap vec_capacity w.numbers-is, w.push_reserved.ensures.capacity),
-        drew_more _ now _ (vec_items l.numbers) _ w.in-Ok.number next l.invariant.2
+      | in-Ok w ↦ record {
+        taken = omega (arith, ap vec_len w.numbers-is, w.push_reserved.ensures.len);
+        room = omega (arith, ap vec_capacity w.numbers-is, w.push_reserved.ensures.capacity);
+        drew =
+            drew_more _ now _ (vec_items l.numbers) _ w.in-Ok.number next l.invariant.drew
             w.in-Ok.ensures.answer c.take.ensures.leaves (g.met.P.Pool.chosen l.pool)
-            (ap vec_items w.numbers-is ∙ w.push_reserved.ensures.items),
-      )
+            (ap vec_items w.numbers-is ∙ w.push_reserved.ensures.items);
+      }
       | in_default w ↦
-          let many = l.invariant.2.many in
+          let many = l.invariant.drew.many in
           let same : vec_len l.numbers ≡ length (vec_items l.numbers) = l.numbers.ok.0 in
           let least = c.min-many.ensures in
           let some : 0 < tally now = omega arith in
@@ -30,12 +31,11 @@ loop-preserved g c =
 pub returns : goal.returns
 returns g c =
     let l = c.loop-number in
-    let items = c.deref-number-items.result.now in
-    let d = c.loop.invariant.2 in
-    let done = at_drop_all (returned (g.P.Pool.inside l.pool)) items l.number-index c.loop-number-test.false in
+    let d = c.loop.invariant.drew in
+    let done = at_drop_all (returned (g.P.Pool.inside l.pool)) c.deref-number-items.result.now l.number-index c.loop-number-test.false in
+    let back = drew_back _ _ _ d in
     let same : vec_len c.loop.numbers ≡ length (vec_items c.loop.numbers) = c.loop.numbers.ok.0 in
-    let given : items ≡ vec_items c.loop.numbers = c.deref-number-items.ensures.value in
     record {
-      restored = sym done ∙ l.invariant ∙ ap (returned (g.P.Pool.inside c.loop.pool)) given ∙ drew_back _ _ _ d;
+      restored = cc (c.deref-number-items.ensures.value);
       drawn = (omega (arith, c.min-many.ensures, c.count.ensures), λ n. omega (arith, d.each n));
     }

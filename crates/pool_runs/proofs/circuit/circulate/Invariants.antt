@@ -3,9 +3,11 @@ use Rattle.pool_runs.proofs.Draws.{Drew, returned}
 use Rattle.pool_runs.proofs.circuit.circulate.Given as goal
 
 abbrev pub invariant-loop : goal.invariant-loop
-invariant-loop g l =
-    (vec_len l.numbers ≡ l.counter) × (l.many ≤ vec_capacity l.numbers)
-    × Drew (g.P.Pool.inside l.initial.pool) (g.P.Pool.inside l.pool) (vec_items l.numbers)
+invariant-loop g l = record {
+  taken : vec_len l.numbers ≡ l.counter;
+  room : l.many ≤ vec_capacity l.numbers;
+  drew : Drew (g.P.Pool.inside l.initial.pool) (g.P.Pool.inside l.pool) (vec_items l.numbers);
+}
 
 abbrev pub invariant-loop-number : goal.invariant-loop-number
 invariant-loop-number g l =

@@ -1,7 +1,7 @@
-use Rattle.std.proofs.Common.{◌≡◌, ◌<◌, [], length, get_or, take, vec_items, subst, arith}
+use Rattle.std.proofs.Common.{◌<◌, [], length, get_or, take, vec_items, arith}
 use Rattle.std.proofs.lemmas.List.{take_more, take_all}
 use Rattle.pool_runs.specs.declared.moves.Move.TheVariants.{Take}
-use Rattle.pool_runs.proofs.Runs.{Going, going_more}
+use Rattle.pool_runs.proofs.Runs.{going_more}
 use Rattle.pool_runs.proofs.Accounts.{throughout, once_full}
 use Rattle.pool_runs.proofs.plays.play.Goals as goal
 
@@ -10,20 +10,19 @@ loop-turn-preserved g c =
     let l = c.loop-turn in
     let moves = c.args.moves.now in
     let i = l.turn-index in
-    let low : i < length moves = omega arith in (
-      omega arith,
-      omega arith,
-      going_more _ (take i moves) _ (vec_items l.answers) _ (get_or moves i Take) c.step-answer.result (g.P.Pool.inside l.pool) _
-          l.invariant.2 (take_more moves i Take low) c.push_reserved.ensures.items c.step-answer.ensures.right c.step-answer.ensures.leaves,
-    )
+    let low : i < length moves = omega arith in record {
+      answered = omega arith;
+      room = omega arith;
+      going =
+          going_more _ (take i moves) _ (vec_items l.answers) _ (get_or moves i Take) c.step-answer.result (g.P.Pool.inside l.pool) _
+          l.invariant.going (take_more moves i Take low) c.push_reserved.ensures.items c.step-answer.ensures.right c.step-answer.ensures.leaves;
+    }
 
 pub returns : goal.returns
 returns g c =
     let l = c.loop-turn in
     let moves = c.args.moves.now in
-    let all : take l.turn-index moves ≡ moves = take_all l.turn-index moves (omega arith) in
-    let run : Going (g.P.Pool.inside c.args.pool.now) moves (vec_items l.answers) (g.P.Pool.inside l.pool) =
-    subst (λ ms. Going (g.P.Pool.inside c.args.pool.now) ms (vec_items l.answers) (g.P.Pool.inside l.pool)) all l.invariant.2 in
+    let run = rw (take_all l.turn-index moves (omega arith)) at l.invariant.going in
     record {
       answered = run.0;
       leads = run.1;
