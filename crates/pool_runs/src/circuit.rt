@@ -11,6 +11,7 @@ pub fn circulate<P: Pool>(heap: Global, pool: &mut P, wanted: u16) -> Result<Vec
     ensures drawn { IfOk result (λ numbers. Drawn (P.Pool.inside pool.old) wanted numbers.items) }
 {
     let many = wanted.min(pool.count());
+    // Room for all of them first: a chain that collects could fail with some numbers out.
     let mut numbers = Vec::with_capacity(heap, many as usize)?;
     for _ in 0..many {
         if let Ok(number) = pool.take() {

@@ -14,6 +14,7 @@ pub fn play<P: Pool>(
 ) -> Result<Vec<Result<Outcome, PoolFault>>, AllocError>
     ensures { MatchResult result (λ answers. Played (P.Pool.inside pool.old) moves.now answers.items (P.Pool.inside pool.new)) (λ _. pool.new ≡ pool.old) }
 {
+    // Room for every answer first: a chain that collects could fail between two moves, with the pool moved.
     let mut answers = Vec::with_capacity(heap, moves.len())?;
     for turn in moves {
         let answer = step(pool, *turn);
