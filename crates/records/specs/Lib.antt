@@ -1,5 +1,6 @@
 pub mod Layout
 pub mod Refusals
+pub mod Sorts
 pub mod Readings
 pub mod Branches
 pub mod Hexadecimal

@@ -10,6 +10,7 @@ mod hex;
 mod kinds;
 mod readings;
 mod refusals;
+mod sorts;
 mod tables;
 #[cfg(test)]
 mod tests;

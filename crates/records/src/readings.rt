@@ -4,11 +4,13 @@ ghost use Rattle.std.specs.Float.{binary32};
 ghost use Rattle.records.specs.declared.readings.Reading.TheVariants.{Missing, Analogue};
 ghost use Rattle.records.specs.declared.refusals.RecordFault.TheVariants.{WrongValue};
 ghost use Rattle.records.specs.Readings.{decoded_reading, encoded_reading, kept_reading, laid_out};
+ghost use Rattle.records.specs.Sorts.{sort_byte};
 ghost use Rattle.records.specs.ReadingRoundTrip.{reading_restores};
 ghost use Rattle.std.proofs.Common.{rules};
 
 use crate::kinds::Kind;
 use crate::refusals::RecordFault;
+use crate::sorts::Sort;
 use std::num::f32_from_bits_with_nan;
 
 // What was read of one channel.
@@ -40,28 +42,26 @@ impl Kind for Reading {
     // Byte 0 is the sort, bytes 1 to 3 are zeros, bytes 4 to 7 the value, low byte first.
     fn decode(bytes: &[u8; 8]) -> Result<Reading, RecordFault> {
         let [sort, gap1, gap2, gap3, v0, v1, v2, v3] = *bytes;
-        if sort > 3 {
-            return Err(RecordFault::UnknownSort);
-        }
+        let sort = Sort::try_from(sort)?;
         if gap1 != 0 || gap2 != 0 || gap3 != 0 {
             return Err(RecordFault::GapNotZero);
         }
         match (sort, u32::from_le_bytes([v0, v1, v2, v3])) {
-            (0, 0) => Ok(Reading::Missing),
-            (1, bits) => analogue(bits),
-            (2, count) => Ok(Reading::Counter(count)),
-            (3, 0) => Ok(Reading::State(false)),
-            (3, 1) => Ok(Reading::State(true)),
-            _ => Err(RecordFault::WrongValue),
+            (Sort::Missing, 0) => Ok(Reading::Missing),
+            (Sort::Analogue, bits) => analogue(bits),
+            (Sort::Counter, count) => Ok(Reading::Counter(count)),
+            (Sort::State, 0) => Ok(Reading::State(false)),
+            (Sort::State, 1) => Ok(Reading::State(true)),
+            (Sort::Missing | Sort::State, _) => Err(RecordFault::WrongValue),
         }
     }
 
     fn encode(self) -> [u8; 8] {
         match self {
-            Reading::Missing => laid(0, 0),
+            Reading::Missing => laid(Sort::Missing, 0),
             Reading::Analogue(value) => laid_analogue(value),
-            Reading::Counter(count) => laid(2, count),
-            Reading::State(on) => laid(3, u32::from(on)),
+            Reading::Counter(count) => laid(Sort::Counter, count),
+            Reading::State(on) => laid(Sort::State, u32::from(on)),
         }
     }
 
@@ -87,15 +87,15 @@ fn laid_analogue(value: f32) -> [u8; 8]
     ensures returns { decoded_reading result ≡ Ok (kept_reading (Analogue value)) }
 {
     if value.is_nan() {
-        return laid(0, 0);
+        return laid(Sort::Missing, 0);
     }
-    laid(1, value.to_bits())
+    laid(Sort::Analogue, value.to_bits())
 }
 
 // A sort and a value in their places.
-fn laid(sort: u8, value: u32) -> [u8; 8]
-    ensures { result ≡ laid_out sort value }
+fn laid(sort: Sort, value: u32) -> [u8; 8]
+    ensures { result ≡ laid_out (sort_byte sort) value }
 {
     let [v0, v1, v2, v3] = value.to_le_bytes();
-    [sort, 0, 0, 0, v0, v1, v2, v3]
+    [sort as u8, 0, 0, 0, v0, v1, v2, v3]
 }
