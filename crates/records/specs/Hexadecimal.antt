@@ -1,5 +1,6 @@
 -- How bytes are printed and written in hexadecimal digits.
-use Rattle.std.specs.Prelude.{ℕ, ◌+◌, ◌*◌, ◌/◌, ◌%◌, cond, ◌&&◌, List, [], ◌∷◌, ◌++◌, length, Some, None, Option, ◌==◌, nat_lt}
+use Rattle.std.specs.Prelude.{ℕ, ◌+◌, ◌*◌, ◌/◌, ◌%◌, cond, ◌&&◌, List, [], ◌∷◌, length, Some, None, Option, ◌==◌, nat_lt}
+use Rattle.std.specs.List.{flat_map}
 use Rattle.std.specs.Char.{digit_value}
 
 -- the lower-case digit of a number below sixteen: from '0' on, and past nine from 'a' on
@@ -12,8 +13,7 @@ byte_digits byte = digit (byte / 16) ∷ digit (byte % 16) ∷ []
 
 -- the digits of several bytes, one byte after another
 abbrev pub bytes_digits : List ℕ → List ℕ
-bytes_digits [] = []
-bytes_digits (byte ∷ bytes) = byte_digits byte ++ bytes_digits bytes
+bytes_digits bytes = flat_map byte_digits bytes
 
 -- the byte that two hexadecimal digits of either case write, the high one first
 abbrev pub byte_of : ℕ → ℕ → Option ℕ

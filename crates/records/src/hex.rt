@@ -1,6 +1,6 @@
 // Bytes as hexadecimal digits.
-ghost use Rattle.std.specs.Prelude.{◌≡◌, ◌<◌, Some};
-ghost use Rattle.records.specs.Hexadecimal.{digit, byte_digits, bytes_digits};
+ghost use Rattle.std.specs.Prelude.{Some};
+ghost use Rattle.records.specs.Hexadecimal.{byte_digits, bytes_digits};
 
 use std::fmt;
 
@@ -11,10 +11,10 @@ pub struct HexByte(pub u8);
 impl fmt::Display for HexByte {
     ghost output = { λ byte. Some (byte_digits byte.0) };
 
+    #[tactic(auto, using(std::proofs::lemmas::Fmt::hex_byte))]
     fn fmt<W: fmt::Write>(&self, f: &mut fmt::Formatter<W>) -> fmt::Result {
-        let high = hex_digit(self.0 / 16);
-        let low = hex_digit(self.0 % 16);
-        write!(f, "{high}{low}")
+        let byte = self.0;
+        write!(f, "{byte:02x}")
     }
 }
 
@@ -32,16 +32,4 @@ impl fmt::Display for Hex {
         }
         Ok(())
     }
-}
-
-// A number below sixteen as its lower-case hexadecimal digit.
-fn hex_digit(number: u8) -> char
-    requires { number < 16 }
-    ensures { result ≡ digit number }
-{
-    char::from(if number < 10 {
-        b'0' + number
-    } else {
-        b'a' + (number - 10)
-    })
 }
