@@ -1,58 +1,72 @@
 -- The bytes of digits, read a pair at a time: the bytes so far, and those of the digits left.
-use Rattle.std.proofs.Common.{◌≡◌, ℕ, suc, ◌+◌, ◌*◌, ◌<◌, ◌≤◌, eqb, List, [], ◌∷◌, ◌++◌, length, get_or, take, drop, set, Some, None, Option, sym, refl, ap, ◌∙◌, append_assoc, append-nil, arith, drop-cons}
-use Rattle.std.proofs.lemmas.List.{take_more_set, take_all, drop_all}
-use Rattle.std.proofs.lemmas.Bool.{cond-true, cond-false, eq-eqb, ne_eqb}
+use Rattle.std.proofs.Common.{◌≡◌, ℕ, ◌+◌, ◌-◌, ◌<◌, ◌≤◌, eqb, List, [], ◌∷◌, ◌++◌, length, get_or, take, drop, set, Some, None, Option, sym, refl, ap, ◌∙◌, append_assoc, append-nil, arith}
+use Rattle.std.proofs.lemmas.List.{take_more_set, take_all, take_rest}
+use Rattle.std.proofs.lemmas.Bool.{ne_eqb}
+use Rattle.std.specs.Bool.{then_some}
 use Rattle.std.specs.Option.{option_map}
 use Rattle.records.specs.Hexadecimal.{byte_of, before, bytes_of, eight_bytes}
 
 -- bytes after those so far
-abbrev pub after : List ℕ → Option (List ℕ) → Option (List ℕ)
+abbrev after : List ℕ → Option (List ℕ) → Option (List ℕ)
 after so_far rest = option_map (λ bytes. so_far ++ bytes) rest
 
-pub after_none : (rest : Option (List ℕ)) → rest ≡ after [] rest
-after_none None = refl
-after_none (Some bytes) = refl
+-- the byte that the first two digits left write
+abbrev next : List ℕ → Option ℕ
+next left = byte_of (get_or left 0 0) (get_or left 1 0)
+
+-- the digits after those two
+abbrev past : List ℕ → List ℕ
+past left = take (length left - 2) (drop 2 left)
+
+-- the digits write the bytes so far, and then what those left write
+pub record IsReadTo (digits so_far left : List ℕ) : Type 0 where
+  pub same : bytes_of digits ≡ after so_far (bytes_of left)
+
+-- nothing is read yet
+pub none_read : (digits : List ℕ) → IsReadTo digits [] digits
+none_read digits = record { same = same (bytes_of digits) }
+  where
+    same : (rest : Option (List ℕ)) → rest ≡ after [] rest
+    same None = refl
+    same (Some bytes) = refl
 
 after_one : (so_far : List ℕ) (byte : ℕ) (rest : Option (List ℕ)) → after so_far (before (Some byte) rest) ≡ after (so_far ++ (byte ∷ [])) rest
 after_one so_far byte None = refl
 after_one so_far byte (Some bytes) = ap Some (sym (append_assoc so_far (byte ∷ []) bytes))
 
--- the digits left begin with a pair
-pair_left : (digits : List ℕ) (i : ℕ) → i + 1 < length digits → drop i digits ≡ get_or digits i 0 ∷ get_or digits (i + 1) 0 ∷ drop (i + 2) digits
-pair_left digits i inside =
-    let first : i < length digits = omega arith in
-    let next : suc i < length digits = omega arith in
-    let e : suc i ≡ i + 1 = omega arith in
-    let f : suc (suc i) ≡ i + 2 = omega arith in
-    drop-cons digits i 0 first ∙ ap (λ xs. get_or digits i 0 ∷ xs) (drop-cons digits (suc i) 0 next ∙ ap (λ j. get_or digits j 0 ∷ drop (suc (suc i)) digits) e ∙ ap (λ j. get_or digits (i + 1) 0 ∷ drop j digits) f)
-
-module _ (digits bytes : List ℕ) (k : ℕ) (pair : 2 * k + 1 < length digits) (so_far : bytes_of digits ≡ after (take k bytes) (bytes_of (drop (2 * k) digits))) where
-  -- by the pair that comes next
-  next_pair : (byte : Option ℕ) → byte ≡ byte_of (get_or digits (2 * k) 0) (get_or digits (2 * k + 1) 0) → bytes_of digits ≡ after (take k bytes) (before byte (bytes_of (drop (2 * k + 2) digits)))
-  unfolding bytes_of
-  next_pair byte e = so_far ∙ ap (λ xs. after (take k bytes) (bytes_of xs)) (pair_left digits (2 * k) pair) ∙ ap (λ b. after (take k bytes) (before b (bytes_of (drop (2 * k + 2) digits)))) (sym e)
-
-  -- the pair writes a byte
-  pub pair_read : (byte : ℕ) → k < length bytes → Some byte ≡ byte_of (get_or digits (2 * k) 0) (get_or digits (2 * k + 1) 0) → bytes_of digits ≡ after (take (k + 1) (set bytes k byte)) (bytes_of (drop (2 * (k + 1)) digits))
-  pair_read byte room e =
-      let past : 2 * k + 2 ≡ 2 * (k + 1) = omega arith in
-      next_pair (Some byte) e ∙ after_one (take k bytes) byte _ ∙ ap (λ xs. after xs (bytes_of (drop (2 * k + 2) digits))) (sym (take_more_set bytes k byte room)) ∙ ap (λ j. after (take (k + 1) (set bytes k byte)) (bytes_of (drop j digits))) past
-
-  -- the pair writes none
-  pub pair_refused : None ≡ byte_of (get_or digits (2 * k) 0) (get_or digits (2 * k + 1) 0) → bytes_of digits ≡ None
-  pair_refused e = next_pair None e
-
--- no digit is left
-pub pairs_all : (digits bytes : List ℕ) (k : ℕ) → length bytes ≤ k → length digits ≤ 2 * k → bytes_of digits ≡ after (take k bytes) (bytes_of (drop (2 * k) digits)) → bytes_of digits ≡ Some bytes
+-- digits that begin with a pair
+begun : (left : List ℕ) → 2 ≤ length left → bytes_of left ≡ before (next left) (bytes_of (past left))
 unfolding bytes_of
-pairs_all digits bytes k full done so_far =
-    so_far ∙ ap (λ xs. after (take k bytes) (bytes_of xs)) (drop_all (2 * k) digits done) ∙ ap Some (append-nil (take k bytes) ∙ take_all k bytes full)
+begun [] two = absurd (omega arith)
+begun (odd ∷ []) two = absurd (omega arith)
+begun (high ∷ low ∷ left) two = ap (λ rest. before (byte_of high low) (bytes_of rest)) (sym (take_rest (high ∷ low ∷ left) 2))
 
--- sixteen digits write what they write, and any other number of them writes nothing
-pub sixteen : (digits : List ℕ) → length digits ≡ 16 → eight_bytes digits ≡ bytes_of digits
-unfolding eight_bytes
-sixteen digits e = cond-true (eqb (length digits) 16) (bytes_of digits) None (eq-eqb (length digits) 16 e)
+module _ (digits bytes left : List ℕ) (k : ℕ) (read : IsReadTo digits (take k bytes) left) where
+  next_pair : (byte : Option ℕ) → byte ≡ next left → 2 ≤ length left → bytes_of digits ≡ after (take k bytes) (before byte (bytes_of (past left)))
+  next_pair byte e two = read.same ∙ ap (after (take k bytes)) (begun left two ∙ ap (λ byte. before byte (bytes_of (past left))) (sym e))
 
+  -- the next pair writes a byte
+  pub pair_read : (byte : ℕ) → k < length bytes → 2 ≤ length left → Some byte ≡ next left → IsReadTo digits (take (k + 1) (set bytes k byte)) (past left)
+  pair_read byte room two e = record {
+    same = next_pair (Some byte) e two ∙ after_one (take k bytes) byte (bytes_of (past left)) ∙ ap (λ so_far. after so_far (bytes_of (past left))) (sym (take_more_set bytes k byte room));
+  }
+
+  -- the next pair writes none
+  pub pair_refused : 2 ≤ length left → None ≡ next left → eight_bytes digits ≡ None
+  unfolding eight_bytes
+  pair_refused two e = let none : bytes_of digits ≡ None = next_pair None e two in grind arith
+
+-- there are not sixteen digits
 pub not_sixteen : (digits : List ℕ) → (length digits ≡ 16 → ⊥) → eight_bytes digits ≡ None
 unfolding eight_bytes
-not_sixteen digits e = cond-false (eqb (length digits) 16) (bytes_of digits) None (ne_eqb (length digits) 16 e)
+not_sixteen digits e = grind arith
+
+-- eight pairs are read: all, if no digit is left
+pub pairs_all : (digits bytes left : List ℕ) (k : ℕ) → IsReadTo digits (take k bytes) left → length bytes ≤ k → 16 + length left ≡ length digits → then_some (eqb (length left) 0) bytes ≡ eight_bytes digits
+unfolding eight_bytes bytes_of
+pairs_all digits bytes [] k read full long = let whole = take_all k bytes full in let e = read.same in grind (arith, append-nil)
+pairs_all digits bytes (digit ∷ left) k read full long =
+    ap (λ empty. then_some empty bytes) (ne_eqb (length (digit ∷ left)) 0 (λ e. omega arith)) ∙ sym (not_sixteen digits (omega arith))
+
+-- the steps of reading
+pub ruleset pairs = (none_read, pair_read, pair_refused, not_sixteen, pairs_all)

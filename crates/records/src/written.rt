@@ -3,17 +3,20 @@ ghost use Rattle.std.specs.Prelude.{◌≡◌};
 ghost use Rattle.records.specs.Hexadecimal.{byte_of, eight_bytes};
 
 // The bytes that sixteen digits write, byte 0 first.
+#[tactic(auto, using(crate::proofs::Pairs::pairs))]
 pub fn eight_bytes(digits: &[u8]) -> Option<[u8; 8]>
     ensures { result ≡ eight_bytes digits.now }
 {
-    if digits.len() != 16 {
-        return None;
-    }
     let mut bytes = [0; 8];
-    for k in 0..8 {
-        bytes[k] = byte(digits[2 * k], digits[2 * k + 1])?;
+    let mut left = digits;
+    for place in bytes.iter_mut() {
+        let [high, low, rest @ ..] = left else {
+            return None;
+        };
+        *place = byte(*high, *low)?;
+        left = rest;
     }
-    Some(bytes)
+    left.is_empty().then_some(bytes)
 }
 
 // The byte that two digits write, the high one first.

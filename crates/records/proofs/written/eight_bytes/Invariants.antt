@@ -1,7 +1,9 @@
-use Rattle.std.proofs.Common.{◌≡◌, ◌*◌, length, take, drop}
-use Rattle.records.specs.Hexadecimal.{bytes_of}
-use Rattle.records.proofs.Pairs.{after}
+use Rattle.std.proofs.Common.{◌≡◌, ◌+◌, ◌*◌, length, take}
+use Rattle.records.proofs.Pairs.{IsReadTo}
 use Rattle.records.proofs.written.eight_bytes.Given as goal
 
-abbrev pub invariant-loop-k : goal.invariant-loop-k
-invariant-loop-k l = (length l.bytes ≡ 8) × (bytes_of l.digits ≡ after (take l.k l.bytes) (bytes_of (drop (2 * l.k) l.digits)))
+abbrev pub invariant-loop-place : goal.invariant-loop-place
+invariant-loop-place l = record {
+  pairs : 2 * l.place-index + length l.left ≡ length l.digits;
+  read : IsReadTo l.digits (take l.place-index l.place-items) l.left;
+}
