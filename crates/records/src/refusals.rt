@@ -20,7 +20,8 @@ pub enum RecordFault {
 }
 
 impl RecordFault {
-    // The byte at which the wrong field starts.
+    // The byte at which the wrong field starts: a `match`, since numbers of the variants would say that no two fields,
+    // of whichever kinds, start at the same byte.
     fn place(self) -> u16
         ensures { result ≡ (fault self).place }
     {

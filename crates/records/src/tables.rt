@@ -8,9 +8,5 @@ use std::alloc::{AllocError, Global};
 pub fn fresh_table<R: Kind>(heap: Global, count: usize) -> Result<Vec<R>, AllocError>
     ensures { IfOk result (λ table. table.items ≡ replicate count R.Kind.blank) }
 {
-    let mut table = Vec::with_capacity(heap, count)?;
-    for _ in 0..count {
-        table.push_reserved(R::fresh());
-    }
-    Ok(table)
+    (0..count).map(|_| R::fresh()).collect(heap)
 }

@@ -5,10 +5,9 @@ use std::test::Fail;
 
 // The place of the fault in eight bytes that are refused.
 fn place<R: Kind>(bytes: [u8; 8]) -> Option<u16> {
-    match R::decode(&bytes) {
-        Ok(_) => None,
-        Err(refusal) => Some(Fault::from(refusal).place),
-    }
+    R::decode(&bytes)
+        .err()
+        .map(|refusal| Fault::from(refusal).place)
 }
 
 #[test]

@@ -9,8 +9,7 @@ use crate::refusals::RecordFault;
 pub fn recoded<R: Kind>(bytes: &[u8; 8]) -> Result<[u8; 8], RecordFault>
     ensures { result ≡ restored (R.Kind.decoded bytes.now) bytes.now }
 {
-    let found = R::decode(bytes)?;
-    Ok(found.encode())
+    R::decode(bytes).map(R::encode)
 }
 
 // Encodes and decodes again: no record is refused, and it comes back as its kind keeps it.
