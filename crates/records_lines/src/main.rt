@@ -5,15 +5,14 @@
 mod answers;
 mod lines;
 
-use crate::answers::reply;
+use crate::answers::{Answer, reply};
 use std::io;
 use std::io::{BufRead, BufReader};
 
 fn main(rt: HostRuntime) -> io::Result<()> {
-    let mut number: u64 = 0;
-    for line in BufReader::new(rt.alloc(), rt.stdin())?.split(rt.alloc(), b'\n') {
-        number = number.saturating_add(1);
-        let answer = reply(number, &line?);
+    let lines = BufReader::new(rt.alloc(), rt.stdin())?.split(rt.alloc(), b'\n');
+    for (number, line) in (1..).zip(lines) {
+        let answer = Answer(reply(number, &line?));
         println!(rt; "{answer}")?;
     }
     Ok(())
