@@ -1,7 +1,7 @@
 -- Lists of eight bytes, and numbers in several bytes, low byte first.
 use Rattle.std.specs.Prelude.{◌≡◌, ℕ, ◌+◌, ◌*◌, ◌/◌, ◌%◌, ◌^◌, ◌<◌, List, [], ◌∷◌, length, slice_index, refl}
-use Rattle.std.proofs.Common.{sym, ap, ◌∙◌, div-add-mod', arith}
-use Rattle.std.proofs.Math.Nat.{div-div-eq-div-mul}
+use Rattle.std.proofs.Common.{arith}
+use Rattle.std.proofs.lemmas.Nat.{from_le_bytes-to_le_bytes_4}
 
 -- a list of eight is its elements
 pub eight : (bs : List ℕ) → length bs ≡ 8 → bs ≡ slice_index bs 0 ∷ slice_index bs 1 ∷ slice_index bs 2 ∷ slice_index bs 3 ∷ slice_index bs 4 ∷ slice_index bs 5 ∷ slice_index bs 6 ∷ slice_index bs 7 ∷ []
@@ -43,13 +43,4 @@ module _ (a b c d : ℕ) (la : a < 256) (lb : b < 256) (lc : c < 256) (ld : d < 
 
 -- the number in the four bytes of a number
 pub word_of_bytes : (n : ℕ) → n < 2 ^ 32 → n % 256 + n / 256 % 256 * 256 + n / 65536 % 256 * 65536 + n / 16777216 % 256 * 16777216 ≡ n
-word_of_bytes n small =
-    let last : n / 16777216 % 256 ≡ n / 16777216 = omega arith in
-    ap (λ d. n % 256 + n / 256 % 256 * 256 + n / 65536 % 256 * 65536 + d * 16777216) last
-    ∙ joined n (n % 256) (n / 256) (n / 256 % 256) (n / 65536) (n / 65536 % 256) (n / 16777216)
-    (div-add-mod' n 256)
-    (ap (λ q. q * 256 + n / 256 % 256) (sym (div-div-eq-div-mul n 256 256)) ∙ div-add-mod' (n / 256) 256)
-    (ap (λ q. q * 256 + n / 65536 % 256) (sym (div-div-eq-div-mul n 65536 256)) ∙ div-add-mod' (n / 65536) 256)
-  where
-    joined : (n a p b q c r : ℕ) → p * 256 + a ≡ n → q * 256 + b ≡ p → r * 256 + c ≡ q → a + b * 256 + c * 65536 + r * 16777216 ≡ n
-    joined n a p b q c r e f g = omega arith
+word_of_bytes n small = from_le_bytes-to_le_bytes_4 n small

@@ -82,6 +82,7 @@ fn analogue(bits: u32) -> Result<Reading, RecordFault>
 }
 
 // A measured value in its place; one that is not a number is laid out as missing.
+#[tactic(auto, using(crate::specs::ReadingRoundTrip::number_returns))]
 fn laid_analogue(value: f32) -> [u8; 8]
     ensures bytes { result ≡ encoded_reading (Analogue value) }
     ensures returns { decoded_reading result ≡ Ok (kept_reading (Analogue value)) }
