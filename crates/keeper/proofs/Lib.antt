@@ -5,3 +5,4 @@ pub mod GivenBack
 pub mod FitsParts
 pub mod FitsTurns
 pub mod FitsCalls
+pub mod Shows

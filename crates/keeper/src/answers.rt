@@ -11,8 +11,7 @@ pub(crate) fn plain(
 ) -> Result<(bool, Option<u16>, u16), Refusal>
     ensures { result ≡ counted done 0 }
 {
-    let (goes_on, value) = done?;
-    Ok((goes_on, value, 0))
+    done.map(|(goes_on, value)| (goes_on, value, 0))
 }
 
 // A refusal is reported with the worker that was given.
@@ -22,13 +21,7 @@ pub(crate) fn placed(
 ) -> Result<(bool, Option<u16>, u16), KeeperFault>
     ensures { result ≡ placed worker done }
 {
-    match done {
-        Ok(answer) => Ok(answer),
-        Err(refusal) => Err(KeeperFault {
-            refusal,
-            place: worker,
-        }),
-    }
+    done.map_err(|refusal| place(worker, refusal))
 }
 
 // A refusal of a call of the worker.

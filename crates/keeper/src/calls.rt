@@ -18,10 +18,7 @@ pub(crate) fn is_free(core: &Core, worker: u16) -> bool
     requires { worker < 8 }
     ensures { result ≡ is_idle (slice_index_or core.now.workers worker blank_worker).task }
 {
-    match core.workers[worker as usize].task {
-        Task::Idle => true,
-        _ => false,
-    }
+    matches!(core.workers[worker as usize].task, Task::Idle)
 }
 
 // Whether the keeper has a cell of this number.
@@ -53,10 +50,7 @@ fn may_look(core: &Core, worker: u16, hold: u16, cell: u16) -> bool
     requires { (worker < 8) × ((hold < 4) × (cell < 4112)) }
     ensures { result ≡ or_none (in_hand_without core.now worker hold) (home cell) }
 {
-    match home(cell) {
-        None => true,
-        Some(block) => in_hand_without(core, worker, hold, block),
-    }
+    home(cell).is_none_or(|block| in_hand_without(core, worker, hold, block))
 }
 
 // Look: the hold shows nothing, and the task begins.

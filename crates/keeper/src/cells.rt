@@ -11,21 +11,14 @@ use machine::{Block, Core, Standing};
 pub(crate) fn is_live(standing: Standing) -> bool
     ensures { result ≡ is_live standing }
 {
-    match standing {
-        Standing::Live => true,
-        Standing::Pooled | Standing::Retired => false,
-    }
+    matches!(standing, Standing::Live)
 }
 
 // The block that has the cell as its link; none where the cell is an anchor.
 pub(crate) fn home(cell: u16) -> Option<u16>
     ensures { result ≡ home cell }
 {
-    if cell < 16 {
-        None
-    } else {
-        Some((cell - 16) / 2)
-    }
+    cell.checked_sub(16).map(|link| link / 2)
 }
 
 // Whether the cell can still be read: it is an anchor, or a live block's link.
@@ -33,10 +26,7 @@ pub(crate) fn readable(core: &Core, cell: u16) -> bool
     requires { cell < 4112 }
     ensures { result ≡ readable core.now (home cell) }
 {
-    match home(cell) {
-        None => true,
-        Some(block) => is_live(core.blocks.rows[block as usize].standing),
-    }
+    home(cell).is_none_or(|block| is_live(core.blocks.rows[block as usize].standing))
 }
 
 // What the cell holds.

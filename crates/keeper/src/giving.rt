@@ -15,10 +15,7 @@ fn give_one<P: Pool>(pool: &mut P, block: u16) -> u16
     ensures pool { P.Pool.inside pool.new ≡ gained (P.Pool.inside pool.old) block }
     ensures number { result ≡ bit (is_out (P.Pool.inside pool.old) block) }
 {
-    match pool.give(block) {
-        Ok(()) => 1,
-        Err(_) => 0,
-    }
+    u16::from(pool.give(block).is_ok())
 }
 
 // Gives the block and each older one of its batch to the pool, newest first, and says by how many the pool gained.
@@ -29,16 +26,14 @@ fn give_back<P: Pool>(core: &mut Core, pool: &mut P, newest: u16) -> u16
     ensures number { result ≡ gain (P.Pool.inside pool.old) (members 2048 core.old (Some newest)) }
 {
     let mut next = Some(newest);
-    let mut handled: u16 = 0;
     let mut given = 0;
-    while handled < 2048 {
+    for _ in 0..2048u16 {
         let Some(block) = next else {
-            return given;
+            break;
         };
         next = core.blocks.rows[block as usize].elder;
         core.blocks.rows[block as usize].standing = Standing::Pooled;
         given += give_one(pool, block);
-        handled += 1;
     }
     given
 }

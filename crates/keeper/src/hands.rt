@@ -1,30 +1,14 @@
 // Which blocks are in a worker's hand.
 ghost use Rattle.std.specs.Prelude.{◌≡◌, ◌<◌};
-ghost use Rattle.machine.specs.Cells.{names_it};
 ghost use Rattle.machine.specs.Hands.{owns, any_shows, in_hand, in_hand_without};
 
 use machine::Core;
-
-// Whether what a cell or a hold has is the block.
-fn names_it(content: Option<u16>, block: u16) -> bool
-    ensures { result ≡ names_it content block }
-{
-    match content {
-        None => false,
-        Some(named) => named == block,
-    }
-}
 
 // Whether one of these holds shows the block.
 fn any_shows(shows: [Option<u16>; 4], block: u16) -> bool
     ensures { result ≡ any_shows shows block }
 {
-    for shown in shows {
-        if names_it(shown, block) {
-            return true;
-        }
-    }
-    false
+    shows.contains(&Some(block))
 }
 
 // Whether the worker owns the block.
@@ -32,7 +16,7 @@ pub(crate) fn owns(core: &Core, worker: u16, block: u16) -> bool
     requires { block < 2048 }
     ensures { result ≡ owns core.now worker block }
 {
-    names_it(core.blocks.rows[block as usize].owner, worker)
+    core.blocks.rows[block as usize].owner == Some(worker)
 }
 
 // Whether the worker owns the block, or one of its holds shows it.

@@ -12,25 +12,11 @@ use crate::cells::{held, home, is_live, name_less, name_more, put};
 use crate::hands::{in_hand, owns};
 use machine::{Core, Refusal};
 
-// Whether two contents of a cell are the same.
-fn same_content(one: Option<u16>, other: Option<u16>) -> bool
-    ensures { result ≡ same_content one other }
-{
-    match (one, other) {
-        (None, None) => true,
-        (Some(a), Some(b)) => a == b,
-        (None, Some(_)) | (Some(_), None) => false,
-    }
-}
-
 // Whether there is such a block, or none is given.
 fn is_block_or_none(core: &Core, given: Option<u16>) -> bool
     ensures { result ≡ or_none (is_block core.now) given }
 {
-    match given {
-        None => true,
-        Some(block) => block < core.form.blocks,
-    }
+    given.is_none_or(|block| block < core.form.blocks)
 }
 
 // Whether the block is in the worker's hand, or none is given.
@@ -38,10 +24,7 @@ fn in_hand_or_none(core: &Core, worker: u16, given: Option<u16>) -> bool
     requires { (worker < 8) × (number_fits given ≡ true) }
     ensures { result ≡ or_none (in_hand core.now worker) given }
 {
-    match given {
-        None => true,
-        Some(block) => in_hand(core, worker, block),
-    }
+    given.is_none_or(|block| in_hand(core, worker, block))
 }
 
 // Whether the block is live, or none is given.
@@ -49,20 +32,14 @@ fn live_or_none(core: &Core, given: Option<u16>) -> bool
     requires { number_fits given ≡ true }
     ensures { result ≡ or_none (live_block core.now) given }
 {
-    match given {
-        None => true,
-        Some(block) => is_live(core.blocks.rows[block as usize].standing),
-    }
+    given.is_none_or(|block| is_live(core.blocks.rows[block as usize].standing))
 }
 
 // Whether the new block is the cell's own.
 fn own_cell(cell: u16, new: Option<u16>) -> bool
     ensures { result ≡ own_cell cell new }
 {
-    match new {
-        None => false,
-        Some(_) => same_content(home(cell), new),
-    }
+    new.is_some() && new == home(cell)
 }
 
 // A block that the worker owned has no owner any more.
@@ -119,7 +96,7 @@ pub(crate) fn relink(
         return Err(Refusal::SelfLink);
     }
     let old = held(core, cell);
-    if !same_content(old, expected) {
+    if old != expected {
         return Err(Refusal::Moved);
     }
     link(core, worker, cell, old, new);

@@ -15,10 +15,7 @@ use pools::Pool;
 fn passed_over(reservation: Reservation, least: u32) -> bool
     ensures { result ≡ passed_over reservation least }
 {
-    match reservation.list {
-        HungList::Off => true,
-        HungList::Empty | HungList::Newest(_) => reservation.era < least,
-    }
+    matches!(reservation.list, HungList::Off) || reservation.era < least
 }
 
 // The block of a batch that comes after this one.
@@ -26,10 +23,7 @@ fn block_after(core: &Core, batch: Batch, block: u16) -> u16
     requires { block < 2048 }
     ensures { result ≡ block_after core.now batch block }
 {
-    match core.blocks.rows[block as usize].elder {
-        None => batch.lead,
-        Some(elder) => elder,
-    }
+    core.blocks.rows[block as usize].elder.unwrap_or(batch.lead)
 }
 
 // What follows the visit of a place, with `next` the next block and so many set aside.

@@ -12,10 +12,7 @@ use pools::Pool;
 fn fits(form: Form) -> bool
     ensures { result ≡ all_fit form }
 {
-    match Figures::new(form) {
-        Ok(_) => true,
-        Err(_) => false,
-    }
+    Figures::new(form).is_ok()
 }
 
 // A core as it is at the making.

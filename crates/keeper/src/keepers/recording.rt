@@ -14,13 +14,7 @@ use pools::Pool;
 fn record_of<R: Copy>(table: &[R], shown: Option<u16>) -> Option<R>
     ensures { result ≡ record_of table.now shown }
 {
-    match shown {
-        None => None,
-        Some(block) => match table.get(block as usize) {
-            None => None,
-            Some(found) => Some(*found),
-        },
-    }
+    table.get(shown? as usize).copied()
 }
 
 impl<P: Pool> Keeper<P> {
@@ -64,9 +58,6 @@ impl<P: Pool> Keeper<P> {
             return Err(place(worker, Refusal::Misfit));
         }
         let shown = self.core.workers[worker as usize].shows[hold as usize];
-        match record_of(table, shown) {
-            None => Err(place(worker, Refusal::OutOfHand)),
-            Some(found) => Ok(found),
-        }
+        record_of(table, shown).ok_or(place(worker, Refusal::OutOfHand))
     }
 }

@@ -14,9 +14,9 @@ ends given more all e h = omega arith
 
 pub returns-in_default : goal.returns-in_default
 returns-in_default g c =
-    let l = c.loop-handled in
+    let l = c.loop in
     let i = l.invariant in
-    let m : ℕ = 2048 - l.handled in
+    let m : ℕ = 2048 - l.counter in
     let none = ap (members m l.core) c.in_default.is ∙ members_none m l.core in
     record {
       core = sym (ap (all_pooled l.core) none) ∙ i.4;
@@ -24,13 +24,13 @@ returns-in_default g c =
       number = ends l.given _ _ (ap (gain (g.P.Pool.inside l.pool)) none) i.6;
     }
 
-pub loop-handled-preserved : goal.loop-handled-preserved
-loop-handled-preserved g c =
-    let l = c.loop-handled in
+pub loop-preserved : goal.loop-preserved
+loop-preserved g c =
+    let l = c.loop in
     let i = l.invariant in
     let b = c.in-Some.block in
-    let m : ℕ = 2048 - l.handled in
-    let n : ℕ = 2048 - (l.handled + 1) in
+    let m : ℕ = 2048 - l.counter in
+    let n : ℕ = 2048 - (l.counter + 1) in
     let e : m ≡ n + 1 = omega arith in
     let k = l.core in
     let inside = g.P.Pool.inside l.pool in
@@ -48,11 +48,11 @@ loop-handled-preserved g c =
       number_again m n k b e inside then put l.given _ _ one (ap (λ bs. l.given + gain inside bs) here ∙ i.6),
     )
 
-pub returns : goal.returns
-returns g c =
-    let l = c.loop-handled in
+pub returns-after-loop : goal.returns-after-loop
+returns-after-loop g c =
+    let l = c.loop in
     let i = l.invariant in
-    let m : ℕ = 2048 - l.handled in
+    let m : ℕ = 2048 - l.counter in
     let none = members_zero m l.core l.next (omega arith) in
     record {
       core = sym (ap (all_pooled l.core) none) ∙ i.4;

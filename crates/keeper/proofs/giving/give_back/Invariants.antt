@@ -5,15 +5,12 @@ use Rattle.keeper.specs.Fits.{number_fits, BlocksFit}
 use Rattle.keeper.proofs.giving.give_back.Given as goal
 
 -- what is left to give brings core, pool and number to what all of it was to
-abbrev pub invariant-loop-handled : goal.invariant-loop-handled
-invariant-loop-handled g l =
-    (l.handled ≤ 2048)
-    × (l.given ≤ l.handled)
+abbrev pub invariant-loop : goal.invariant-loop
+invariant-loop g l =
+    (l.counter ≤ 2048)
+    × (l.given ≤ l.counter)
     × (number_fits l.next ≡ true)
     × BlocksFit l.core
-    × (all_pooled l.core (members (2048 - l.handled) l.core l.next) ≡ all_pooled l.initial.core (members 2048 l.initial.core (Some l.newest)))
-    × (gained_all (g.P.Pool.inside l.pool) (members (2048 - l.handled) l.core l.next) ≡ gained_all (g.P.Pool.inside l.initial.pool) (members 2048 l.initial.core (Some l.newest)))
-    × (l.given + gain (g.P.Pool.inside l.pool) (members (2048 - l.handled) l.core l.next) ≡ gain (g.P.Pool.inside l.initial.pool) (members 2048 l.initial.core (Some l.newest)))
-
-abbrev pub decreases-loop-handled : goal.decreases-loop-handled
-decreases-loop-handled g l = 2048 - l.handled
+    × (all_pooled l.core (members (2048 - l.counter) l.core l.next) ≡ all_pooled l.initial.core (members 2048 l.initial.core (Some l.newest)))
+    × (gained_all (g.P.Pool.inside l.pool) (members (2048 - l.counter) l.core l.next) ≡ gained_all (g.P.Pool.inside l.initial.pool) (members 2048 l.initial.core (Some l.newest)))
+    × (l.given + gain (g.P.Pool.inside l.pool) (members (2048 - l.counter) l.core l.next) ≡ gain (g.P.Pool.inside l.initial.pool) (members 2048 l.initial.core (Some l.newest)))
