@@ -9,7 +9,7 @@ use Rattle.figures.specs.declared.limits.Figure.TheVariants.{Workers, Holds, Blo
 use Rattle.figures.specs.declared.limits.Form.{Form}
 use Rattle.machine.specs.Machine.{fits, all_fit}
 use Rattle.machine.proofs.Passing.{both_left, both_right}
-use Rattle.keeper.proofs.Ranges.{seven, together}
+use Rattle.keeper.proofs.InRange.{seven, together}
 
 -- one figure that a test finds within its limits, and the other way round
 figure_fit : (form : Form) (figure : Figure) → fits form figure ≡ true → Fits form figure

@@ -60,7 +60,7 @@ module _ (m n : ℕ) (k : Core) (b : ℕ) (e : m ≡ n + 1) where
       omega arith
 
 -- a block that is handled in a walk, by the count that its lead then has
-pub handled_comes : (k : Core) (w b : ℕ) (on : Task) (inside : List Bool) (n count given : ℕ) (last : Core) (left : List Bool)
+handled_comes : (k : Core) (w b : ℕ) (on : Task) (inside : List Bool) (n count given : ℕ) (last : Core) (left : List Bool)
     → (let lead = (block k b).lead in let down : Core = with_block k lead (with_count (block k lead) count (block k lead).newest) in
     count ≡ (block k lead).count - 1 → last ≡ all_pooled down (due down lead) → left ≡ gained_all inside (due down lead) → given ≡ gain inside (due down lead)
     → outcome (with_task last w on) left (Ok (true, None, given)) ≡ over (handled k w b on) inside n)
@@ -71,8 +71,25 @@ handled_comes k w b on inside n count given last left e core pool number =
     let now : outcome (with_task last w on) left (Ok (true, None, given)) ≡ comes count = λ i. outcome (with_task (core i) w on) (pool i) (Ok (true, None, number i)) in
     now ∙ ap comes e
 
+-- the same in the steps of the code: the lead is found, its count goes down, the batch is given back if it is due, and the task is another
+pub handle_comes : (k : Core) (w b : ℕ) (on : Task) (inside : List Bool) (n lead count given : ℕ) (down last end : Core) (left : List Bool)
+    → lead ≡ (block k b).lead → count ≡ (block k lead).count - 1 → down ≡ with_block k lead (with_count (block k lead) count (block k lead).newest)
+    → last ≡ all_pooled down (due down lead) → left ≡ gained_all inside (due down lead) → given ≡ gain inside (due down lead) → end ≡ with_task last w on
+    → outcome end left (Ok (true, None, given)) ≡ over (handled k w b on) inside n
+handle_comes k w b on inside n lead count given down last end left found less put core pool number then =
+    let row : ℕ → Core = λ l. with_block k l (with_count (block k l) count (block k l).newest) in
+    let from : ℕ → List ℕ = λ l. due (row l) l in
+    let back : due down lead ≡ from (block k b).lead = ap (λ j. due j lead) put ∙ ap from found in
+    let to : down ≡ row (block k b).lead = put ∙ ap row found in
+    ap (λ j. outcome j left (Ok (true, None, given))) then
+    ∙ handled_comes k w b on inside n count given last left
+    (less ∙ ap (λ l. (block k l).count - 1) found)
+    (core ∙ (λ i. all_pooled (to i) (back i)))
+    (pool ∙ ap (gained_all inside) back)
+    (number ∙ ap (gain inside) back)
+
 -- the last turn of a try, by the count that its lead then has
-pub last_comes : (k : Core) (w hung : ℕ) (batch : Batch) (o : Option Batch) (inside : List Bool) (n count given : ℕ) (last : Core) (left : List Bool) → o ≡ Some batch
+last_comes : (k : Core) (w hung : ℕ) (batch : Batch) (o : Option Batch) (inside : List Bool) (n count given : ℕ) (last : Core) (left : List Bool) → o ≡ Some batch
     → (let lead = batch.lead in let settled : Core = with_block k lead (with_count (block k lead) count batch.newest) in
     count ≡ (block k lead).count + hung - 1024 → last ≡ all_pooled settled (due settled lead) → left ≡ gained_all inside (due settled lead) → given ≡ gain inside (due settled lead)
     → outcome (emptied last w) left (Ok (false, None, given)) ≡ over (try_last k w hung o) inside n)
@@ -82,3 +99,19 @@ last_comes k w hung batch o inside n count given last left own e core pool numbe
     let comes : ℕ → Outcome = λ c. outcome (emptied (all_pooled (settled c) (due (settled c) lead)) w) (gained_all inside (due (settled c) lead)) (Ok (false, None, gain inside (due (settled c) lead))) in
     let now : outcome (emptied last w) left (Ok (false, None, given)) ≡ comes count = λ i. outcome (emptied (core i) w) (pool i) (Ok (false, None, number i)) in
     now ∙ ap comes e ∙ ap (λ x. over (try_last k w hung x) inside n) (sym own)
+
+-- the same in the steps of the code
+pub settle_comes : (k : Core) (w hung : ℕ) (batch : Batch) (o : Option Batch) (inside : List Bool) (n lead count given : ℕ) (down last end : Core) (left : List Bool) → o ≡ Some batch
+    → lead ≡ batch.lead → count ≡ (block k batch.lead).count + hung - 1024 → down ≡ with_block k lead (with_count (block k batch.lead) count batch.newest)
+    → last ≡ all_pooled down (due down lead) → left ≡ gained_all inside (due down lead) → given ≡ gain inside (due down lead) → end ≡ emptied last w
+    → outcome end left (Ok (false, None, given)) ≡ over (try_last k w hung o) inside n
+settle_comes k w hung batch o inside n lead count given down last end left own found more put core pool number then =
+    let row : ℕ → Core = λ l. with_block k l (with_count (block k batch.lead) count batch.newest) in
+    let from : ℕ → List ℕ = λ l. due (row l) l in
+    let back : due down lead ≡ from batch.lead = ap (λ j. due j lead) put ∙ ap from found in
+    let to : down ≡ row batch.lead = put ∙ ap row found in
+    ap (λ j. outcome j left (Ok (false, None, given))) then
+    ∙ last_comes k w hung batch o inside n count given last left own more
+    (core ∙ (λ i. all_pooled (to i) (back i)))
+    (pool ∙ ap (gained_all inside) back)
+    (number ∙ ap (gain inside) back)

@@ -1,8 +1,9 @@
 pub mod Places
-pub mod Ranges
+pub mod InRange
 pub mod FiguresFit
 pub mod GivenBack
-pub mod FitsParts
-pub mod FitsTurns
-pub mod FitsCalls
+pub mod FitsRows
+pub mod FitsTasks
+pub mod FreshFits
 pub mod Shows
+pub mod Walks

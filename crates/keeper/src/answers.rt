@@ -5,20 +5,21 @@ ghost use Rattle.keeper.specs.Called.{placed};
 
 use machine::{KeeperFault, Refusal};
 
+// What a step that gives no block back answers: whether the task goes on, and its value.
+pub(crate) type Plain = Result<(bool, Option<u16>), Refusal>;
+
+// What any step answers: with how many blocks were given back.
+pub(crate) type Counted = Result<(bool, Option<u16>, u16), Refusal>;
+
 // An answer of a step that gives no block back.
-pub(crate) fn plain(
-    done: Result<(bool, Option<u16>), Refusal>,
-) -> Result<(bool, Option<u16>, u16), Refusal>
+pub(crate) fn plain(done: Plain) -> Counted
     ensures { result ≡ counted done 0 }
 {
     done.map(|(goes_on, value)| (goes_on, value, 0))
 }
 
 // A refusal is reported with the worker that was given.
-pub(crate) fn placed(
-    worker: u16,
-    done: Result<(bool, Option<u16>, u16), Refusal>,
-) -> Result<(bool, Option<u16>, u16), KeeperFault>
+pub(crate) fn placed(worker: u16, done: Counted) -> Result<(bool, Option<u16>, u16), KeeperFault>
     ensures { result ≡ placed worker done }
 {
     done.map_err(|refusal| place(worker, refusal))

@@ -4,13 +4,16 @@
 mod answers;
 mod calls;
 mod cells;
+mod checks;
 mod dropping;
 mod giving;
 mod hands;
 mod keepers;
 mod looking;
+mod ranges;
 mod relinking;
 mod retiring;
+mod tables;
 mod taking;
 mod tasks;
 mod trying;

@@ -1,13 +1,13 @@
 // Retiring a block that was cut out of the tree.
-ghost use Rattle.std.specs.Prelude.{◌≡◌, ◌<◌, ◌≤◌, true};
+ghost use Rattle.std.specs.Prelude.{◌≡◌, Some, true};
 ghost use Rattle.machine.specs.Calls.{joined, retired, with_batch, retire};
 ghost use Rattle.keeper.specs.Called.{plain};
-ghost use Rattle.keeper.specs.Fits.{BlocksFit};
+ghost use Rattle.keeper.specs.Fits.{task_fits, batch_fits};
 
-use crate::calls::is_free;
-use crate::cells::{is_live, name_less};
-use crate::hands::in_hand;
-use machine::{Batch, Block, Core, Refusal, Task, Worker};
+use crate::answers::Plain;
+use crate::ranges::{BlockId, Content, WorkerId};
+use crate::tables::Tables;
+use machine::{Batch, Refusal, Task, Worker};
 
 // A worker's own batch after a block that was born at an era has joined it: the first to join is the lead.
 fn joined(own: Option<Batch>, block: u16, birth: u32) -> Batch
@@ -29,70 +29,66 @@ fn joined(own: Option<Batch>, block: u16, birth: u32) -> Batch
     }
 }
 
-// The block leaves the live ones, its links no longer count, and it joins the worker's batch, which is `batch` then.
-fn withdraw(core: &mut Core, worker: u16, block: u16, batch: Batch)
-    requires { (worker < 8) × ((block < 2048) × (BlocksFit core.old)) }
-    ensures { core.new ≡ retired core.old worker block batch }
-{
-    let own = core.workers[worker as usize].batch;
-    let live = core.live;
-    let [first, second] = core.blocks.rows[block as usize].links;
-    name_less(core, first);
-    name_less(core, second);
-    core.blocks.retire(block, own, batch.lead);
-    core.live = live.saturating_sub(1);
-}
+impl Tables {
+    // The block leaves the live ones, its links no longer count, and it joins the worker's batch, which is `batch` then.
+    fn withdraw(&mut self, worker: WorkerId, block: BlockId, batch: Batch)
+        requires { batch_fits (Some batch) ≡ true }
+        ensures { self.new.core ≡ retired self.old.core worker.number block.number batch }
+    {
+        let own = self.core.workers[worker.number as usize].batch;
+        let live = self.core.live;
+        let [first, second] = self.core.blocks.rows[block.number as usize].links;
+        self.name_less(Content { block: first });
+        self.name_less(Content { block: second });
+        self.core.blocks.retire(block.number, own, batch.lead);
+        self.core.live = live.saturating_sub(1);
+    }
 
-// The worker has another batch and task.
-fn gather(core: &mut Core, worker: u16, batch: Batch, task: Task)
-    requires { worker < 8 }
-    ensures { core.new ≡ with_batch core.old worker batch task }
-{
-    let me = core.workers[worker as usize];
-    core.workers[worker as usize] = Worker {
-        task,
-        batch: Some(batch),
-        ..me
-    };
-}
-
-// Retire: the block joins the worker's batch, which is tried where its size is then a multiple of the trying period.
-pub(crate) fn retire(
-    core: &mut Core,
-    worker: u16,
-    block: u16,
-) -> Result<(bool, Option<u16>), Refusal>
-    requires { (core.old.form.workers ≤ 8) × ((core.old.form.blocks ≤ 2048) × ((1 ≤ core.old.form.trying_period) × (BlocksFit core.old))) }
-    ensures { plain core.new result ≡ retire core.old worker block }
-{
-    if worker >= core.form.workers || block >= core.form.blocks {
-        return Err(Refusal::Stranger);
-    }
-    if !is_free(core, worker) {
-        return Err(Refusal::Busy);
-    }
-    if !in_hand(core, worker, block) {
-        return Err(Refusal::OutOfHand);
-    }
-    let row = core.blocks.rows[block as usize];
-    if !is_live(row.standing) {
-        return Err(Refusal::Withdrawn);
-    }
-    if row.names != 0 {
-        return Err(Refusal::Linked);
-    }
-    let batch = joined(core.workers[worker as usize].batch, block, row.birth);
-    let due = batch.size % core.form.trying_period == 0;
-    withdraw(core, worker, block, batch);
-    if due {
-        let first = Task::TryVisit {
-            place: 0,
-            next: block,
-            aside: 0,
+    // The worker has another batch and task.
+    fn gather(&mut self, worker: WorkerId, batch: Batch, task: Task)
+        requires task { task_fits task ≡ true }
+        requires batch { batch_fits (Some batch) ≡ true }
+        ensures { self.new.core ≡ with_batch self.old.core worker.number batch task }
+    {
+        let me = Worker {
+            task,
+            batch: Some(batch),
+            ..self.core.workers[worker.number as usize]
         };
-        gather(core, worker, batch, first);
-        return Ok((true, None));
+        self.put_worker(worker, me);
     }
-    gather(core, worker, batch, Task::Idle);
-    Ok((false, None))
+
+    // Retire: the block joins the worker's batch, which is tried where its size is then a multiple of the trying period.
+    pub(crate) fn retire(&mut self, worker: u16, block: u16) -> Plain
+        ensures { plain self.new.core result ≡ retire self.old.core worker block }
+    {
+        let worker = self.worker(worker)?;
+        let cut = self.block(block)?;
+        self.must_be_free(worker)?;
+        if !self.in_hand(worker, cut) {
+            return Err(Refusal::OutOfHand);
+        }
+        if !self.is_live(cut) {
+            return Err(Refusal::Withdrawn);
+        }
+        let row = self.core.blocks.rows[block as usize];
+        if row.names != 0 {
+            return Err(Refusal::Linked);
+        }
+        let own = self.core.workers[worker.number as usize].batch;
+        let batch = joined(own, block, row.birth);
+        let due = batch.size % self.core.form.trying_period == 0;
+        self.withdraw(worker, cut, batch);
+        if due {
+            let first = Task::TryVisit {
+                place: 0,
+                next: block,
+                aside: 0,
+            };
+            self.gather(worker, batch, first);
+            return Ok((true, None));
+        }
+        self.gather(worker, batch, Task::Idle);
+        Ok((false, None))
+    }
 }

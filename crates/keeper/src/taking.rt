@@ -1,68 +1,71 @@
 // Taking a block from the pool, in two turns.
-ghost use Rattle.std.specs.Prelude.{◌≡◌, ◌<◌, true, slice_index_or};
-ghost use Rattle.machine.specs.State.{blank_worker};
+ghost use Rattle.std.specs.Prelude.{◌≡◌};
 ghost use Rattle.machine.specs.Moves.{over};
 ghost use Rattle.machine.specs.Taking.{counted_up, take_era, take_block};
 ghost use Rattle.keeper.specs.Called.{plain, outcome};
 
-use machine::{Block, Core, Refusal, Standing, Task, Worker};
+use crate::answers::{Counted, Plain};
+use crate::ranges::{WorkerId, id};
+use crate::tables::Tables;
+use machine::{Block, Refusal, Standing, Task, Worker};
 use pools::Pool;
 
-// The worker's taking count goes up, from one below the period back to 0, and the second turn is next.
-fn count_up(core: &mut Core, worker: u16)
-    requires { (worker < 8) × ((slice_index_or core.old.workers worker blank_worker).takings < 65535) }
-    ensures { core.new ≡ counted_up core.old worker }
-{
-    let me = core.workers[worker as usize];
-    let up = me.takings + 1;
-    let takings = if up == core.form.taking_period { 0 } else { up };
-    core.workers[worker as usize] = Worker {
-        takings,
-        task: Task::TakeBlock,
-        ..me
-    };
-}
+impl Tables {
+    // The worker's taking count goes up, from one below the period back to 0, and the second turn is next.
+    fn count_up(&mut self, worker: WorkerId)
+        ensures { self.new.core ≡ counted_up self.old.core worker.number }
+    {
+        let me = self.core.workers[worker.number as usize];
+        let up = me.takings + 1;
+        let takings = if up == self.core.form.taking_period {
+            0
+        } else {
+            up
+        };
+        let task = Task::TakeBlock;
+        self.put_worker(
+            worker,
+            Worker {
+                takings,
+                task,
+                ..me
+            },
+        );
+    }
 
-// First turn: at a taking count of 0 the era rises by one, unless it is at its end.
-pub(crate) fn take_era(core: &mut Core, worker: u16) -> Result<(bool, Option<u16>), Refusal>
-    requires { (worker < 8) × ((slice_index_or core.old.workers worker blank_worker).takings < 65535) }
-    ensures { plain core.new result ≡ take_era core.old worker }
-{
-    if core.workers[worker as usize].takings == 0 {
-        if core.era == u32::MAX {
-            core.workers[worker as usize].task = Task::Idle;
-            return Err(Refusal::EraSpent);
+    // First turn: at a taking count of 0 the era rises by one, unless it is at its end.
+    pub(crate) fn take_era(&mut self, worker: WorkerId) -> Plain
+        ensures { plain self.new.core result ≡ take_era self.old.core worker.number }
+    {
+        if self.core.workers[worker.number as usize].takings == 0 {
+            if self.core.era == u32::MAX {
+                self.put_task(worker, Task::Idle);
+                return Err(Refusal::EraSpent);
+            }
+            self.core.era += 1;
         }
-        core.era += 1;
-        count_up(core, worker);
-        return Ok((true, None));
+        self.count_up(worker);
+        Ok((true, None))
     }
-    count_up(core, worker);
-    Ok((true, None))
-}
 
-// Second turn: the block that the pool hands out is live and owned, and is the value.
-pub(crate) fn take_block<P: Pool>(
-    core: &mut Core,
-    pool: &mut P,
-    worker: u16,
-) -> Result<(bool, Option<u16>, u16), Refusal>
-    requires { worker < 8 }
-    ensures { outcome core.new (P.Pool.inside pool.new) result ≡ over (take_block core.old (P.Pool.inside pool.old) (P.Pool.next pool.old) worker) (P.Pool.inside pool.old) (P.Pool.next pool.old) }
-{
-    core.workers[worker as usize].task = Task::Idle;
-    if core.live >= core.form.live {
-        return Err(Refusal::Full);
+    // Second turn: the block that the pool hands out is live and owned, and is the value.
+    pub(crate) fn take_block<P: Pool>(&mut self, pool: &mut P, worker: WorkerId) -> Counted
+        ensures { outcome self.new.core (P.Pool.inside pool.new) result ≡ over (take_block self.old.core (P.Pool.inside pool.old) (P.Pool.next pool.old) worker.number) (P.Pool.inside pool.old) (P.Pool.next pool.old) }
+    {
+        self.put_task(worker, Task::Idle);
+        if self.core.live >= self.core.form.live {
+            return Err(Refusal::Full);
+        }
+        let block = pool.take()?;
+        let row = Block {
+            standing: Standing::Live,
+            owner: Some(worker.number),
+            birth: self.core.era,
+            links: [None; 2],
+            ..self.core.blocks.rows[block as usize]
+        };
+        self.put_block(id(block), row);
+        self.core.live += 1;
+        Ok((false, Some(block), 0))
     }
-    let block = pool.take()?;
-    core.live += 1;
-    let old = core.blocks.rows[block as usize];
-    core.blocks.rows[block as usize] = Block {
-        standing: Standing::Live,
-        owner: Some(worker),
-        birth: core.era,
-        links: [None; 2],
-        ..old
-    };
-    Ok((false, Some(block), 0))
 }

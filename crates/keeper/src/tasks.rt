@@ -1,51 +1,87 @@
 // A worker moves on to another task, or to another stage of its task.
-ghost use Rattle.std.specs.Prelude.{◌≡◌, ◌<◌, ◌≤◌};
+ghost use Rattle.std.specs.Prelude.{◌≡◌, true};
 ghost use Rattle.machine.specs.declared.states.HungList.TheVariants.{Off, Empty};
-ghost use Rattle.machine.specs.State.{with_task};
+ghost use Rattle.machine.specs.State.{with_task, place_of};
 ghost use Rattle.machine.specs.Moves.{goes_on};
-ghost use Rattle.machine.specs.Looking.{with_list};
+ghost use Rattle.machine.specs.Looking.{own_reservation, with_list, with_own_era, with_shown};
 ghost use Rattle.keeper.specs.Called.{plain};
+ghost use Rattle.keeper.specs.Fits.{task_fits, list_fits};
 
-use crate::looking::put_list;
-use machine::{Core, HungList, Refusal, Task, Worker};
+use crate::answers::Plain;
+use crate::ranges::{HoldId, Place, WorkerId, id};
+use crate::tables::Tables;
+use machine::{HungList, Refusal, Reservation, Task, Worker};
 
-// The worker has another task.
-pub(crate) fn go_on(
-    core: &mut Core,
-    worker: u16,
-    task: Task,
-) -> Result<(bool, Option<u16>), Refusal>
-    requires { worker < 8 }
-    ensures { plain core.new result ≡ goes_on (with_task core.old worker task) }
-{
-    core.workers[worker as usize].task = task;
-    Ok((true, None))
-}
+impl Tables {
+    // The place of the reservation of a worker's hold.
+    pub(crate) fn place_of(&self, worker: WorkerId, hold: HoldId) -> Place
+        ensures { result.number ≡ place_of self.now.core worker.number hold.number }
+    {
+        id(worker.number * self.core.form.holds + hold.number)
+    }
 
-// The list of the worker's hold becomes empty, and the worker has another task.
-pub(crate) fn empty(
-    core: &mut Core,
-    worker: u16,
-    hold: u16,
-    task: Task,
-) -> Result<(bool, Option<u16>), Refusal>
-    requires { (worker < 8) × ((hold < 4) × (core.old.form.holds ≤ 4)) }
-    ensures { plain core.new result ≡ goes_on (with_task (with_list core.old worker hold Empty) worker task) }
-{
-    put_list(core, worker, hold, HungList::Empty);
-    go_on(core, worker, task)
-}
+    // The reservation of a worker's hold.
+    pub(crate) fn own(&self, worker: WorkerId, hold: HoldId) -> Reservation
+        ensures { result ≡ own_reservation self.now.core worker.number hold.number }
+    {
+        let place = self.place_of(worker, hold);
+        self.core.reservations[place.number as usize]
+    }
 
-// It is turned off, and the worker has another task.
-pub(crate) fn turn_off(
-    core: &mut Core,
-    worker: u16,
-    hold: u16,
-    task: Task,
-) -> Result<(bool, Option<u16>), Refusal>
-    requires { (worker < 8) × ((hold < 4) × (core.old.form.holds ≤ 4)) }
-    ensures { plain core.new result ≡ goes_on (with_task (with_list core.old worker hold Off) worker task) }
-{
-    put_list(core, worker, hold, HungList::Off);
-    go_on(core, worker, task)
+    // Its list becomes another.
+    fn put_list(&mut self, worker: WorkerId, hold: HoldId, list: HungList)
+        requires { list_fits list ≡ true }
+        ensures { self.new.core ≡ with_list self.old.core worker.number hold.number list }
+    {
+        let own = self.own(worker, hold);
+        let place = self.place_of(worker, hold);
+        self.put_reservation(place, Reservation { list, ..own });
+    }
+
+    // Its era becomes another.
+    pub(crate) fn put_era(&mut self, worker: WorkerId, hold: HoldId, era: u32)
+        ensures { self.new.core ≡ with_own_era self.old.core worker.number hold.number era }
+    {
+        let own = self.own(worker, hold);
+        let place = self.place_of(worker, hold);
+        self.put_reservation(place, Reservation { era, ..own });
+    }
+
+    // The worker's hold shows something else, and the worker has another task.
+    pub(crate) fn show(&mut self, worker: WorkerId, hold: HoldId, shown: Option<u16>, task: Task)
+        requires { task_fits task ≡ true }
+        ensures { self.new.core ≡ with_shown self.old.core worker.number hold.number shown task }
+    {
+        let mut me = self.core.workers[worker.number as usize];
+        me.shows[hold.number as usize] = shown;
+        me.task = task;
+        self.put_worker(worker, me);
+    }
+
+    // The worker has another task.
+    pub(crate) fn go_on(&mut self, worker: WorkerId, task: Task) -> Plain
+        requires { task_fits task ≡ true }
+        ensures { plain self.new.core result ≡ goes_on (with_task self.old.core worker.number task) }
+    {
+        self.put_task(worker, task);
+        Ok((true, None))
+    }
+
+    // The list of the worker's hold becomes empty, and the worker has another task.
+    pub(crate) fn empty(&mut self, worker: WorkerId, hold: HoldId, task: Task) -> Plain
+        requires { task_fits task ≡ true }
+        ensures { plain self.new.core result ≡ goes_on (with_task (with_list self.old.core worker.number hold.number Empty) worker.number task) }
+    {
+        self.put_list(worker, hold, HungList::Empty);
+        self.go_on(worker, task)
+    }
+
+    // It is turned off, and the worker has another task.
+    pub(crate) fn turn_off(&mut self, worker: WorkerId, hold: HoldId, task: Task) -> Plain
+        requires { task_fits task ≡ true }
+        ensures { plain self.new.core result ≡ goes_on (with_task (with_list self.old.core worker.number hold.number Off) worker.number task) }
+    {
+        self.put_list(worker, hold, HungList::Off);
+        self.go_on(worker, task)
+    }
 }

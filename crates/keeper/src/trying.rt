@@ -1,14 +1,17 @@
 // Trying to give a worker's own batch back: visits, hangings and a last turn.
-ghost use Rattle.std.specs.Prelude.{◌≡◌, ◌+◌, ◌<◌, ◌≤◌, true, slice_index_or};
-ghost use Rattle.machine.specs.State.{blank_worker};
+ghost use Rattle.std.specs.Prelude.{◌≡◌, ◌<◌, ◌≤◌, Some, true, slice_index_or};
+ghost use Rattle.machine.specs.State.{worker as worker_of};
 ghost use Rattle.machine.specs.Moves.{over};
 ghost use Rattle.machine.specs.Trying.{passed_over, block_after, visited, hanged, try_visit, try_last};
 ghost use Rattle.keeper.specs.Called.{plain, outcome};
-ghost use Rattle.keeper.specs.Fits.{batch_fits, BlocksFit};
+ghost use Rattle.keeper.specs.Fits.{batch_fits, list_fits, task_fits};
+ghost use Rattle.machine.specs.declared.states.Task.TheVariants.{TryHang};
 ghost use Rattle.keeper.specs.Words.{hang_as};
 
-use crate::giving::give_due;
-use machine::{Batch, Core, HungList, Refusal, Reservation, Task, Worker};
+use crate::answers::{Counted, Plain};
+use crate::ranges::{BlockId, Place, WorkerId, id};
+use crate::tables::Tables;
+use machine::{Batch, Block, HungList, Refusal, Reservation, Task, Worker};
 use pools::Pool;
 
 // Whether a reservation is passed over: its list is off, or its era is below the batch's least birth.
@@ -18,140 +21,148 @@ fn passed_over(reservation: Reservation, least: u32) -> bool
     matches!(reservation.list, HungList::Off) || reservation.era < least
 }
 
-// The block of a batch that comes after this one.
-fn block_after(core: &Core, batch: Batch, block: u16) -> u16
-    requires { block < 2048 }
-    ensures { result ≡ block_after core.now batch block }
-{
-    core.blocks.rows[block as usize].elder.unwrap_or(batch.lead)
-}
+impl Tables {
+    // The block of a batch that comes after this one.
+    fn block_after(&self, batch: Batch, block: BlockId) -> u16
+        ensures { result ≡ block_after self.now.core batch block.number }
+    {
+        self.core.blocks.rows[block.number as usize]
+            .elder
+            .unwrap_or(batch.lead)
+    }
 
-// What follows the visit of a place, with `next` the next block and so many set aside.
-fn visited(core: &Core, batch: Batch, place: u16, next: u16, aside: u16) -> Task
-    requires { (place < 32) × ((core.now.form.workers ≤ 8) × (core.now.form.holds ≤ 4)) }
-    ensures { result ≡ visited core.now batch place next aside }
-{
-    if place + 1 < core.form.workers * core.form.holds {
-        Task::TryVisit {
-            place: place + 1,
-            next,
-            aside,
-        }
-    } else if aside == 0 {
-        Task::TryLast { hung: 0 }
-    } else {
-        Task::TryHang {
-            next: batch.newest,
-            left: aside,
-            hung: 0,
+    // What follows the visit of a place, with `next` the next block and so many set aside.
+    fn visited(&self, batch: Batch, place: Place, next: u16, aside: u16) -> Task
+        ensures { result ≡ visited self.now.core batch place.number next aside }
+    {
+        if place.number + 1 < self.core.form.workers * self.core.form.holds {
+            Task::TryVisit {
+                place: place.number + 1,
+                next,
+                aside,
+            }
+        } else if aside == 0 {
+            Task::TryLast { hung: 0 }
+        } else {
+            Task::TryHang {
+                next: batch.newest,
+                left: aside,
+                hung: 0,
+            }
         }
     }
-}
 
-// A visit: the reservation is passed over, or the next block is set aside for it; if only the lead is left, the task ends.
-pub(crate) fn visit(
-    core: &mut Core,
-    worker: u16,
-    place: u16,
-    next: u16,
-    aside: u16,
-) -> Result<(bool, Option<u16>), Refusal>
-    requires worker_bound { (worker < 8) × ((place < 32) × ((next < 2048) × (aside ≤ place))) }
-    requires workers_bound { (core.old.form.workers ≤ 8) × (core.old.form.holds ≤ 4) }
-    ensures { plain core.new result ≡ try_visit core.old worker place next aside (slice_index_or core.old.workers worker blank_worker).batch }
-{
-    let Some(batch) = core.workers[worker as usize].batch else {
-        core.workers[worker as usize].task = Task::Idle;
-        return Ok((false, None));
-    };
-    if passed_over(core.reservations[place as usize], batch.least) {
-        core.workers[worker as usize].task = visited(core, batch, place, next, aside);
-        return Ok((true, None));
-    }
-    if next == batch.lead {
-        core.workers[worker as usize].task = Task::Idle;
-        return Ok((false, None));
-    }
-    let after = block_after(core, batch, next);
-    let task = visited(core, batch, place, after, aside + 1);
-    core.blocks.rows[next as usize].slot = place;
-    core.workers[worker as usize].task = task;
-    Ok((true, None))
-}
-
-// What follows the hanging of a block, with so many left and so many hung.
-fn hanged(core: &Core, batch: Batch, block: u16, left: u16, hung: u16) -> Task
-    requires { block < 2048 }
-    ensures { result ≡ hanged core.now batch block left hung }
-{
-    if left > 1 {
-        Task::TryHang {
-            next: block_after(core, batch, block),
-            left: left - 1,
-            hung,
+    // A visit: the reservation is passed over, or the next block is set aside for it; if only the lead is left, the task ends.
+    pub(crate) fn visit(
+        &mut self,
+        worker: WorkerId,
+        place: Place,
+        next: BlockId,
+        aside: u16,
+    ) -> Plain
+        requires { aside ≤ place.number }
+        ensures { plain self.new.core result ≡ try_visit self.old.core worker.number place.number next.number aside (worker_of self.old.core worker.number).batch }
+    {
+        let Some(batch) = self.core.workers[worker.number as usize].batch else {
+            self.put_task(worker, Task::Idle);
+            return Ok((false, None));
+        };
+        let reservation = self.core.reservations[place.number as usize];
+        if passed_over(reservation, batch.least) {
+            let task = self.visited(batch, place, next.number, aside);
+            return self.go_on(worker, task);
         }
-    } else {
-        Task::TryLast { hung }
-    }
-}
-
-// A hanging: where the list at the block's place is not off, the block is put at its front.
-pub(crate) fn hang(
-    core: &mut Core,
-    worker: u16,
-    block: u16,
-    left: u16,
-    hung: u16,
-    list: HungList,
-) -> Result<(bool, Option<u16>), Refusal>
-    requires { (worker < 8) × ((block < 2048) × ((hung < 65535) × (BlocksFit core.old))) }
-    ensures { plain core.new result ≡ hang_as core.old worker block left hung list (slice_index_or core.old.workers worker blank_worker).batch }
-{
-    let Some(batch) = core.workers[worker as usize].batch else {
-        core.workers[worker as usize].task = Task::Idle;
-        return Ok((false, None));
-    };
-    let under = match list {
-        HungList::Off => {
-            core.workers[worker as usize].task = hanged(core, batch, block, left, hung);
-            return Ok((true, None));
+        if next.number == batch.lead {
+            self.put_task(worker, Task::Idle);
+            return Ok((false, None));
         }
-        HungList::Empty => None,
-        HungList::Newest(newest) => Some(newest),
-    };
-    let task = hanged(core, batch, block, left, hung + 1);
-    let slot = core.blocks.rows[block as usize].slot;
-    core.blocks.rows[block as usize].under = under;
-    core.reservations[slot as usize].list = HungList::Newest(block);
-    core.workers[worker as usize].task = task;
-    Ok((true, None))
-}
+        let after = self.block_after(batch, next);
+        let task = self.visited(batch, place, after, aside + 1);
+        let row = Block {
+            slot: place.number,
+            ..self.core.blocks.rows[next.number as usize]
+        };
+        self.put_block(next, row);
+        self.go_on(worker, task)
+    }
 
-// The last turn: the number hung, less 1,024, is added to the count, and at 0 the batch is given back.
-pub(crate) fn last<P: Pool>(
-    core: &mut Core,
-    pool: &mut P,
-    worker: u16,
-    hung: u16,
-) -> Result<(bool, Option<u16>, u16), Refusal>
-    requires { (worker < 8) × ((hung ≤ 32) × ((BlocksFit core.old) × (batch_fits (slice_index_or core.old.workers worker blank_worker).batch ≡ true))) }
-    ensures { outcome core.new (P.Pool.inside pool.new) result ≡ over (try_last core.old worker hung (slice_index_or core.old.workers worker blank_worker).batch) (P.Pool.inside pool.old) (P.Pool.next pool.old) }
-{
-    let me = core.workers[worker as usize];
-    let Some(batch) = me.batch else {
-        core.workers[worker as usize].task = Task::Idle;
-        return Ok((false, None, 0));
-    };
-    let mut row = core.blocks.rows[batch.lead as usize];
-    row.count = row.count.saturating_sub(1024 - hung);
-    row.newest = batch.newest;
-    core.blocks.rows[batch.lead as usize] = row;
-    let given = give_due(core, pool, batch.lead);
-    let me = core.workers[worker as usize];
-    core.workers[worker as usize] = Worker {
-        task: Task::Idle,
-        batch: None,
-        ..me
-    };
-    Ok((false, None, given))
+    // What follows the hanging of a block, with so many left and so many hung.
+    fn hanged(&self, batch: Batch, block: BlockId, left: u16, hung: u16) -> Task
+        ensures { result ≡ hanged self.now.core batch block.number left hung }
+    {
+        if left > 1 {
+            Task::TryHang {
+                next: self.block_after(batch, block),
+                left: left - 1,
+                hung,
+            }
+        } else {
+            Task::TryLast { hung }
+        }
+    }
+
+    // A hanging: where the list at the block's place is not off, the block is put at its front.
+    pub(crate) fn hang(
+        &mut self,
+        worker: WorkerId,
+        block: BlockId,
+        left: u16,
+        hung: u16,
+        list: HungList,
+    ) -> Plain
+        requires task { task_fits (TryHang block.number left hung) ≡ true }
+        requires list { list_fits list ≡ true }
+        ensures { plain self.new.core result ≡ hang_as self.old.core worker.number block.number left hung list (worker_of self.old.core worker.number).batch }
+    {
+        let Some(batch) = self.core.workers[worker.number as usize].batch else {
+            self.put_task(worker, Task::Idle);
+            return Ok((false, None));
+        };
+        let under = match list {
+            HungList::Off => {
+                let task = self.hanged(batch, block, left, hung);
+                return self.go_on(worker, task);
+            }
+            HungList::Empty => None,
+            HungList::Newest(newest) => Some(newest),
+        };
+        let task = self.hanged(batch, block, left, hung + 1);
+        let row = self.core.blocks.rows[block.number as usize];
+        self.put_block(block, Block { under, ..row });
+        let list = HungList::Newest(block.number);
+        let era = self.core.reservations[row.slot as usize].era;
+        self.put_reservation(id(row.slot), Reservation { list, era });
+        self.go_on(worker, task)
+    }
+
+    // The last turn: the number hung, less 1,024, is added to the count, and at 0 the batch is given back.
+    pub(crate) fn last<P: Pool>(&mut self, pool: &mut P, worker: WorkerId, hung: u16) -> Counted
+        requires { hung ≤ 32 }
+        ensures { outcome self.new.core (P.Pool.inside pool.new) result ≡ over (try_last self.old.core worker.number hung (worker_of self.old.core worker.number).batch) (P.Pool.inside pool.old) (P.Pool.next pool.old) }
+    {
+        let Some(batch) = self.core.workers[worker.number as usize].batch else {
+            self.put_task(worker, Task::Idle);
+            return Ok((false, None, 0));
+        };
+        let lead = id(batch.lead);
+        let row = self.core.blocks.rows[batch.lead as usize];
+        let count = row.count.saturating_sub(1024 - hung);
+        let newest = batch.newest;
+        self.put_block(
+            lead,
+            Block {
+                count,
+                newest,
+                ..row
+            },
+        );
+        let given = self.give_due(pool, lead);
+        let me = Worker {
+            task: Task::Idle,
+            batch: None,
+            ..self.core.workers[worker.number as usize]
+        };
+        self.put_worker(worker, me);
+        Ok((false, None, given))
+    }
 }

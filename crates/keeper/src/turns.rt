@@ -1,78 +1,85 @@
 // A turn: one step of a worker's task.
-ghost use Rattle.std.specs.Prelude.{◌≡◌, ◌<◌, ◌≤◌, true, slice_index_or};
-ghost use Rattle.machine.specs.State.{blank_worker};
+ghost use Rattle.std.specs.Prelude.{◌≡◌, true};
+ghost use Rattle.machine.specs.State.{worker as worker_of};
 ghost use Rattle.machine.specs.Moves.{over};
-ghost use Rattle.machine.specs.Turns.{step};
+ghost use Rattle.machine.specs.Turns.{step, turn};
 ghost use Rattle.keeper.specs.Called.{outcome};
-ghost use Rattle.keeper.specs.Fits.{task_fits, Fits};
+ghost use Rattle.keeper.specs.Fits.{task_fits, list_fits};
 ghost use Rattle.keeper.specs.Words.{list_read};
 
-use crate::answers::plain;
-use crate::dropping::{drop_era, drop_walk};
-use crate::looking::{look_again, look_cell, look_era, look_walk, own_list, reserve};
-use crate::taking::{take_block, take_era};
-use crate::tasks::{empty, go_on, turn_off};
-use crate::trying::{hang, last, visit};
-use machine::{Core, HungList, Refusal, Task};
+use crate::answers::{Counted, plain};
+use crate::ranges::{WorkerId, id};
+use crate::tables::Tables;
+use machine::HungList::{Empty, Newest, Off};
+use machine::Task::{
+    DropEra, DropList, DropWalk, Idle, LookAgain, LookCell, LookEra, LookList, LookWalk, LookWrite,
+    TakeBlock, TakeEra, TryHang, TryLast, TryVisit,
+};
+use machine::{HungList, Refusal, Task};
 use pools::Pool;
 
-// What the list holds that the next step of a worker's task reads; off where it reads none.
-fn list_read(core: &Core, worker: u16, task: Task) -> HungList
-    requires { (worker < 8) × ((core.now.form.holds ≤ 4) × ((Fits core.now) × (task_fits task ≡ true))) }
-    ensures { result ≡ list_read core.now worker task }
-{
-    match task {
-        Task::LookList { hold, .. } | Task::DropList { hold } => own_list(core, worker, hold),
-        Task::TryHang { next, .. } => {
-            let slot = core.blocks.rows[next as usize].slot;
-            core.reservations[slot as usize].list
+impl Tables {
+    // What the list holds that the next step of a worker's task reads; off where it reads none.
+    fn list_read(&self, worker: WorkerId, task: Task) -> HungList
+        requires { task_fits task ≡ true }
+        ensures value { result ≡ list_read self.now.core worker.number task }
+        ensures fits { list_fits result ≡ true }
+    {
+        match task {
+            LookList { hold, .. } | DropList { hold } => { self.own(worker, id(hold)).list }
+            TryHang { next, .. } => {
+                let slot = self.core.blocks.rows[next as usize].slot;
+                self.core.reservations[slot as usize].list
+            }
+            _ => Off,
         }
-        _ => HungList::Off,
     }
-}
 
-// One step of the worker's task: by the task and its stage, and by what the list holds that the step reads.
-pub(crate) fn step<P: Pool>(
-    core: &mut Core,
-    pool: &mut P,
-    worker: u16,
-) -> Result<(bool, Option<u16>, u16), Refusal>
-    requires { (worker < 8) × ((core.old.form.workers ≤ 8) × ((core.old.form.holds ≤ 4) × (Fits core.old))) }
-    ensures { outcome core.new (P.Pool.inside pool.new) result ≡ over (step core.old (P.Pool.inside pool.old) (P.Pool.next pool.old) worker (slice_index_or core.old.workers worker blank_worker).task) (P.Pool.inside pool.old) (P.Pool.next pool.old) }
-{
-    let task = core.workers[worker as usize].task;
-    match (task, list_read(core, worker, task)) {
-        (Task::Idle, _) => Err(Refusal::Idle),
-        (Task::TakeEra, _) => plain(take_era(core, worker)),
-        (Task::TakeBlock, _) => take_block(core, pool, worker),
-        (Task::LookCell { hold, cell }, _) => plain(look_cell(core, worker, hold, cell)),
-        (Task::LookEra { hold, cell, seen }, _) => plain(look_era(core, worker, hold, cell, seen)),
-        (Task::LookList { hold, cell, era }, HungList::Empty) => {
-            plain(go_on(core, worker, Task::LookWrite { hold, cell, era }))
-        }
-        (Task::LookList { hold, cell, .. }, HungList::Off) => {
-            plain(empty(core, worker, hold, Task::LookAgain { hold, cell }))
-        }
-        (Task::LookList { hold, cell, .. }, HungList::Newest(next)) => {
-            plain(empty(core, worker, hold, Task::LookWalk { hold, cell, next }))
-        }
-        (Task::LookWalk { hold, cell, next }, _) => look_walk(core, pool, worker, hold, cell, next),
-        (Task::LookAgain { hold, cell }, _) => plain(look_again(core, worker, hold, cell)),
-        (Task::LookWrite { hold, cell, era }, _) => plain(reserve(core, worker, hold, cell, era)),
-        (Task::DropList { hold }, HungList::Newest(next)) => {
-            plain(turn_off(core, worker, hold, Task::DropWalk { hold, next }))
-        }
-        (Task::DropList { hold }, HungList::Off | HungList::Empty) => {
-            plain(turn_off(core, worker, hold, Task::DropEra { hold }))
-        }
-        (Task::DropWalk { hold, next }, _) => drop_walk(core, pool, worker, hold, next),
-        (Task::DropEra { hold }, _) => plain(drop_era(core, worker, hold)),
-        (Task::TryVisit { place, next, aside }, _) => {
-            plain(visit(core, worker, place, next, aside))
-        }
-        (Task::TryHang { next, left, hung }, list) => {
-            plain(hang(core, worker, next, left, hung, list))
-        }
-        (Task::TryLast { hung }, _) => last(core, pool, worker, hung),
+    // Turn: a step of the worker's task.
+    pub(crate) fn turn<P: Pool>(&mut self, pool: &mut P, worker: u16) -> Counted
+        ensures { outcome self.new.core (P.Pool.inside pool.new) result ≡ over (turn self.old.core (P.Pool.inside pool.old) (P.Pool.next pool.old) worker) (P.Pool.inside pool.old) (P.Pool.next pool.old) }
+    {
+        let worker = self.worker(worker)?;
+        self.step(pool, worker)
+    }
+
+    // One step of the worker's task: by the task and its stage, and by what the list holds that the step reads.
+    fn step<P: Pool>(&mut self, pool: &mut P, worker: WorkerId) -> Counted
+        ensures { outcome self.new.core (P.Pool.inside pool.new) result ≡ over (step self.old.core (P.Pool.inside pool.old) (P.Pool.next pool.old) worker.number (worker_of self.old.core worker.number).task) (P.Pool.inside pool.old) (P.Pool.next pool.old) }
+    {
+        let task = self.core.workers[worker.number as usize].task;
+        let done = match (task, self.list_read(worker, task)) {
+            (Idle, _) => Err(Refusal::Idle),
+            (TakeEra, _) => self.take_era(worker),
+            (TakeBlock, _) => return self.take_block(pool, worker),
+            (LookCell { hold, cell }, _) => self.look_cell(worker, id(hold), id(cell)),
+            (LookEra { hold, cell, seen }, _) => self.look_era(worker, id(hold), id(cell), seen),
+            (LookList { hold, cell, era }, Empty) => {
+                self.go_on(worker, LookWrite { hold, cell, era })
+            }
+            (LookList { hold, cell, .. }, Off) => {
+                self.empty(worker, id(hold), LookAgain { hold, cell })
+            }
+            (LookList { hold, cell, .. }, Newest(next)) => {
+                self.empty(worker, id(hold), LookWalk { hold, cell, next })
+            }
+            (LookWalk { hold, cell, next }, _) => {
+                return self.look_walk(pool, worker, id(hold), id(cell), id(next));
+            }
+            (LookAgain { hold, cell }, _) => self.look_again(worker, id(hold), id(cell)),
+            (LookWrite { hold, cell, era }, _) => self.reserve(worker, id(hold), id(cell), era),
+            (DropList { hold }, Newest(next)) => {
+                self.turn_off(worker, id(hold), DropWalk { hold, next })
+            }
+            (DropList { hold }, Off | Empty) => self.turn_off(worker, id(hold), DropEra { hold }),
+            (DropWalk { hold, next }, _) => {
+                return self.drop_walk(pool, worker, id(hold), id(next));
+            }
+            (DropEra { hold }, _) => self.drop_era(worker, id(hold)),
+            (TryVisit { place, next, aside }, _) => self.visit(worker, id(place), id(next), aside),
+            (TryHang { next, left, hung }, list) => self.hang(worker, id(next), left, hung, list),
+            (TryLast { hung }, _) => return self.last(pool, worker, hung),
+        };
+        plain(done)
     }
 }

@@ -6,20 +6,18 @@ ghost use Rattle.machine.specs.Calls.{take, look, drop, retire, relink};
 ghost use Rattle.machine.specs.Turns.{turn};
 ghost use Rattle.keeper.specs.Called.{called, call_of};
 
-use crate::answers::{place, placed, plain};
+use crate::answers::{placed, plain};
 use crate::keepers::Keeper;
-use crate::turns::step;
-use crate::{calls, relinking, retiring};
-use machine::{KeeperFault, Refusal};
+use machine::KeeperFault;
 use pools::Pool;
 
 impl<P: Pool> Keeper<P> {
     // Begins to take a block from the pool.
     pub fn take(&mut self, worker: u16) -> Result<(bool, Option<u16>, u16), KeeperFault>
-        ensures call { called self.new.core (P.Pool.inside self.new.pool) result ≡ call_of worker (over (take self.old.core worker) (P.Pool.inside self.old.pool) (P.Pool.next self.old.pool)) }
+        ensures call { called self.new.tables.core (P.Pool.inside self.new.pool) result ≡ call_of worker (over (take self.old.tables.core worker) (P.Pool.inside self.old.pool) (P.Pool.next self.old.pool)) }
         ensures pool { self.new.pool ≡ self.old.pool }
     {
-        placed(worker, plain(calls::take(&mut self.core, worker)))
+        placed(worker, plain(self.tables.take(worker)))
     }
 
     // Begins to look at a cell with one of the worker's holds.
@@ -29,21 +27,18 @@ impl<P: Pool> Keeper<P> {
         hold: u16,
         cell: u16,
     ) -> Result<(bool, Option<u16>, u16), KeeperFault>
-        ensures call { called self.new.core (P.Pool.inside self.new.pool) result ≡ call_of worker (over (look self.old.core worker hold cell) (P.Pool.inside self.old.pool) (P.Pool.next self.old.pool)) }
+        ensures call { called self.new.tables.core (P.Pool.inside self.new.pool) result ≡ call_of worker (over (look self.old.tables.core worker hold cell) (P.Pool.inside self.old.pool) (P.Pool.next self.old.pool)) }
         ensures pool { self.new.pool ≡ self.old.pool }
     {
-        placed(
-            worker,
-            plain(calls::look(&mut self.core, worker, hold, cell)),
-        )
+        placed(worker, plain(self.tables.look(worker, hold, cell)))
     }
 
     // Begins to drop all of the worker's holds.
     pub fn drop(&mut self, worker: u16) -> Result<(bool, Option<u16>, u16), KeeperFault>
-        ensures call { called self.new.core (P.Pool.inside self.new.pool) result ≡ call_of worker (over (drop self.old.core worker) (P.Pool.inside self.old.pool) (P.Pool.next self.old.pool)) }
+        ensures call { called self.new.tables.core (P.Pool.inside self.new.pool) result ≡ call_of worker (over (drop self.old.tables.core worker) (P.Pool.inside self.old.pool) (P.Pool.next self.old.pool)) }
         ensures pool { self.new.pool ≡ self.old.pool }
     {
-        placed(worker, plain(calls::drop(&mut self.core, worker)))
+        placed(worker, plain(self.tables.drop(worker)))
     }
 
     // Gives up a block that was cut out of the tree; where the worker's batch is due, a try begins.
@@ -52,13 +47,10 @@ impl<P: Pool> Keeper<P> {
         worker: u16,
         block: u16,
     ) -> Result<(bool, Option<u16>, u16), KeeperFault>
-        ensures call { called self.new.core (P.Pool.inside self.new.pool) result ≡ call_of worker (over (retire self.old.core worker block) (P.Pool.inside self.old.pool) (P.Pool.next self.old.pool)) }
+        ensures call { called self.new.tables.core (P.Pool.inside self.new.pool) result ≡ call_of worker (over (retire self.old.tables.core worker block) (P.Pool.inside self.old.pool) (P.Pool.next self.old.pool)) }
         ensures pool { self.new.pool ≡ self.old.pool }
     {
-        placed(
-            worker,
-            plain(retiring::retire(&mut self.core, worker, block)),
-        )
+        placed(worker, plain(self.tables.retire(worker, block)))
     }
 
     // Lets a cell that holds `expected` hold `new`.
@@ -69,22 +61,19 @@ impl<P: Pool> Keeper<P> {
         expected: Option<u16>,
         new: Option<u16>,
     ) -> Result<(bool, Option<u16>, u16), KeeperFault>
-        ensures call { called self.new.core (P.Pool.inside self.new.pool) result ≡ call_of worker (over (relink self.old.core worker cell expected new) (P.Pool.inside self.old.pool) (P.Pool.next self.old.pool)) }
+        ensures call { called self.new.tables.core (P.Pool.inside self.new.pool) result ≡ call_of worker (over (relink self.old.tables.core worker cell expected new) (P.Pool.inside self.old.pool) (P.Pool.next self.old.pool)) }
         ensures pool { self.new.pool ≡ self.old.pool }
     {
         placed(
             worker,
-            plain(relinking::relink(&mut self.core, worker, cell, expected, new)),
+            plain(self.tables.relink(worker, cell, expected, new)),
         )
     }
 
     // Does one step of the worker's task.
     pub fn turn(&mut self, worker: u16) -> Result<(bool, Option<u16>, u16), KeeperFault>
-        ensures { called self.new.core (P.Pool.inside self.new.pool) result ≡ call_of worker (over (turn self.old.core (P.Pool.inside self.old.pool) (P.Pool.next self.old.pool) worker) (P.Pool.inside self.old.pool) (P.Pool.next self.old.pool)) }
+        ensures { called self.new.tables.core (P.Pool.inside self.new.pool) result ≡ call_of worker (over (turn self.old.tables.core (P.Pool.inside self.old.pool) (P.Pool.next self.old.pool) worker) (P.Pool.inside self.old.pool) (P.Pool.next self.old.pool)) }
     {
-        if worker >= self.core.form.workers {
-            return Err(place(worker, Refusal::Stranger));
-        }
-        placed(worker, step(&mut self.core, &mut self.pool, worker))
+        placed(worker, self.tables.turn(&mut self.pool, worker))
     }
 }

@@ -4,6 +4,7 @@ ghost use Rattle.machine.specs.Machine.{all_fit, make};
 ghost use Rattle.machine.specs.State.{fresh};
 
 use crate::keepers::Keeper;
+use crate::tables::Tables;
 use figures::{Figures, Form};
 use machine::{Block, BlockTable, Core, HungList, KeeperFault, Refusal, Reservation, Task, Worker};
 use pools::Pool;
@@ -46,7 +47,7 @@ impl<P: Pool + Drop> Keeper<P> {
     // A keeper with these figures and this pool; refused where a figure is outside its limits, or the pool has not as many
     // numbers as there are blocks, all in.
     pub fn make(form: Form, pool: P) -> Result<Keeper<P>, KeeperFault>
-        ensures { MatchResult result (λ keeper. (make form (P.Pool.inside pool) ≡ Ok keeper.core) × (keeper.pool ≡ pool)) (λ refused. make form (P.Pool.inside pool) ≡ Err refused) }
+        ensures { MatchResult result (λ keeper. (make form (P.Pool.inside pool) ≡ Ok keeper.tables.core) × (keeper.pool ≡ pool)) (λ refused. make form (P.Pool.inside pool) ≡ Err refused) }
     {
         if !fits(form) || pool.size() != form.blocks || pool.count() != form.blocks {
             return Err(KeeperFault {
@@ -54,7 +55,7 @@ impl<P: Pool + Drop> Keeper<P> {
                 place: 0,
             });
         }
-        let core = fresh(form);
-        Ok(Keeper { core, pool })
+        let tables = Tables { core: fresh(form) };
+        Ok(Keeper { tables, pool })
     }
 }

@@ -4,10 +4,8 @@ ghost use Rattle.machine.specs.Machine.{answered, record_of, write, read};
 ghost use Rattle.keeper.specs.Tables.{state, wrote, showed};
 
 use crate::answers::place;
-use crate::calls::is_free;
-use crate::hands::owns;
 use crate::keepers::Keeper;
-use machine::{Core, KeeperFault, Refusal, Worker};
+use machine::{KeeperFault, Refusal};
 use pools::Pool;
 
 // The record of the block that is shown, if one is.
@@ -26,19 +24,17 @@ impl<P: Pool> Keeper<P> {
         block: u16,
         value: R,
     ) -> Result<(), KeeperFault>
-        ensures { answered (state self.now.core (P.Pool.inside self.now.pool) table.old) table.new (wrote result) ≡ write (state self.now.core (P.Pool.inside self.now.pool) table.old) worker block value }
+        ensures { answered (state self.now.tables.core (P.Pool.inside self.now.pool) table.old) table.new (wrote result) ≡ write (state self.now.tables.core (P.Pool.inside self.now.pool) table.old) worker block value }
     {
-        if worker >= self.core.form.workers || block >= self.core.form.blocks {
-            return Err(place(worker, Refusal::Stranger));
+        let at = move |refusal| place(worker, refusal);
+        let owner = self.tables.worker(worker).map_err(at)?;
+        let target = self.tables.block(block).map_err(at)?;
+        self.tables.must_be_free(owner).map_err(at)?;
+        if table.len() != self.tables.core.form.blocks as usize {
+            return Err(at(Refusal::Misfit));
         }
-        if !is_free(&self.core, worker) {
-            return Err(place(worker, Refusal::Busy));
-        }
-        if table.len() != self.core.form.blocks as usize {
-            return Err(place(worker, Refusal::Misfit));
-        }
-        if !owns(&self.core, worker, block) {
-            return Err(place(worker, Refusal::OutOfHand));
+        if !self.tables.owns(owner, target) {
+            return Err(at(Refusal::OutOfHand));
         }
         table[block as usize] = value;
         Ok(())
@@ -46,18 +42,16 @@ impl<P: Pool> Keeper<P> {
 
     // The record of the block that the worker's hold shows.
     pub fn read<R: Copy>(&self, table: &[R], worker: u16, hold: u16) -> Result<R, KeeperFault>
-        ensures { answered (state self.now.core (P.Pool.inside self.now.pool) table.now) table.now (showed result) ≡ read (state self.now.core (P.Pool.inside self.now.pool) table.now) worker hold }
+        ensures { answered (state self.now.tables.core (P.Pool.inside self.now.pool) table.now) table.now (showed result) ≡ read (state self.now.tables.core (P.Pool.inside self.now.pool) table.now) worker hold }
     {
-        if worker >= self.core.form.workers || hold >= self.core.form.holds {
-            return Err(place(worker, Refusal::Stranger));
+        let at = move |refusal| place(worker, refusal);
+        let reader = self.tables.worker(worker).map_err(at)?;
+        let own = self.tables.hold(hold).map_err(at)?;
+        self.tables.must_be_free(reader).map_err(at)?;
+        if table.len() != self.tables.core.form.blocks as usize {
+            return Err(at(Refusal::Misfit));
         }
-        if !is_free(&self.core, worker) {
-            return Err(place(worker, Refusal::Busy));
-        }
-        if table.len() != self.core.form.blocks as usize {
-            return Err(place(worker, Refusal::Misfit));
-        }
-        let shown = self.core.workers[worker as usize].shows[hold as usize];
-        record_of(table, shown).ok_or(place(worker, Refusal::OutOfHand))
+        let shown = self.tables.shown(reader, own);
+        record_of(table, shown).ok_or(at(Refusal::OutOfHand))
     }
 }

@@ -1,0 +1,70 @@
+// The checks of the calls: what is given exists, and the worker has no task.
+ghost use Rattle.std.specs.Prelude.{◌≡◌, true, false, MatchResult};
+ghost use Rattle.machine.specs.declared.refusals.Refusal.TheVariants.{Stranger, Busy};
+ghost use Rattle.machine.specs.Calls.{is_worker, is_hold, is_cell, is_block, or_none, free};
+
+use crate::ranges::{BlockId, CellId, Content, HoldId, WorkerId, id};
+use crate::tables::Tables;
+use machine::{Refusal, Task};
+
+impl Tables {
+    // The worker of a number.
+    pub(crate) fn worker(&self, number: u16) -> Result<WorkerId, Refusal>
+        ensures { MatchResult result (λ found. (found.number ≡ number) × (is_worker self.now.core number ≡ true)) (λ refused. (refused ≡ Stranger) × (is_worker self.now.core number ≡ false)) }
+    {
+        if number >= self.core.form.workers {
+            return Err(Refusal::Stranger);
+        }
+        Ok(id(number))
+    }
+
+    // The hold of a number.
+    pub(crate) fn hold(&self, number: u16) -> Result<HoldId, Refusal>
+        ensures { MatchResult result (λ found. (found.number ≡ number) × (is_hold self.now.core number ≡ true)) (λ refused. (refused ≡ Stranger) × (is_hold self.now.core number ≡ false)) }
+    {
+        if number >= self.core.form.holds {
+            return Err(Refusal::Stranger);
+        }
+        Ok(id(number))
+    }
+
+    // The cell of a number.
+    pub(crate) fn cell(&self, number: u16) -> Result<CellId, Refusal>
+        ensures { MatchResult result (λ found. (found.number ≡ number) × (is_cell self.now.core number ≡ true)) (λ refused. (refused ≡ Stranger) × (is_cell self.now.core number ≡ false)) }
+    {
+        if number >= 16 + 2 * self.core.form.blocks {
+            return Err(Refusal::Stranger);
+        }
+        Ok(id(number))
+    }
+
+    // The block of a number.
+    pub(crate) fn block(&self, number: u16) -> Result<BlockId, Refusal>
+        ensures { MatchResult result (λ found. (found.number ≡ number) × (is_block self.now.core number ≡ true)) (λ refused. (refused ≡ Stranger) × (is_block self.now.core number ≡ false)) }
+    {
+        if number >= self.core.form.blocks {
+            return Err(Refusal::Stranger);
+        }
+        Ok(id(number))
+    }
+
+    // The block of a number, if one is given.
+    pub(crate) fn block_or_none(&self, given: Option<u16>) -> Result<Content, Refusal>
+        ensures { MatchResult result (λ found. (found.block ≡ given) × (or_none (is_block self.now.core) given ≡ true)) (λ refused. (refused ≡ Stranger) × (or_none (is_block self.now.core) given ≡ false)) }
+    {
+        if let Some(number) = given {
+            self.block(number)?;
+        }
+        Ok(Content { block: given })
+    }
+
+    // Refused where the worker has a task.
+    pub(crate) fn must_be_free(&self, worker: WorkerId) -> Result<(), Refusal>
+        ensures { MatchResult result (λ _. free self.now.core worker.number ≡ true) (λ refused. (refused ≡ Busy) × (free self.now.core worker.number ≡ false)) }
+    {
+        match self.core.workers[worker.number as usize].task {
+            Task::Idle => Ok(()),
+            _ => Err(Refusal::Busy),
+        }
+    }
+}
