@@ -11,6 +11,9 @@ pub(crate) type Plain = Result<(bool, Option<u16>), Refusal>;
 // What any step answers: with how many blocks were given back.
 pub(crate) type Counted = Result<(bool, Option<u16>, u16), Refusal>;
 
+// What a call answers: whether a task goes on, its value, and how many blocks were given back; or the fault.
+pub type Told = Result<(bool, Option<u16>, u16), KeeperFault>;
+
 // An answer of a step that gives no block back.
 pub(crate) fn plain(done: Plain) -> Counted
     ensures { result ≡ counted done 0 }
@@ -19,7 +22,7 @@ pub(crate) fn plain(done: Plain) -> Counted
 }
 
 // A refusal is reported with the worker that was given.
-pub(crate) fn placed(worker: u16, done: Counted) -> Result<(bool, Option<u16>, u16), KeeperFault>
+pub(crate) fn placed(worker: u16, done: Counted) -> Told
     ensures { result ≡ placed worker done }
 {
     done.map_err(|refusal| place(worker, refusal))

@@ -1,51 +1,51 @@
 // The checks of the calls: what is given exists, and the worker has no task.
-ghost use Rattle.std.specs.Prelude.{◌≡◌, true, false, MatchResult};
+ghost use Rattle.std.specs.Prelude.{◌≡◌, ◌≤◌, true, false, MatchResult, nat_lt};
 ghost use Rattle.machine.specs.declared.refusals.Refusal.TheVariants.{Stranger, Busy};
 ghost use Rattle.machine.specs.Calls.{is_worker, is_hold, is_cell, is_block, or_none, free};
 
-use crate::ranges::{BlockId, CellId, Content, HoldId, WorkerId, id};
+use crate::ranges::{Below, BlockId, CellId, Content, HoldId, WorkerId};
 use crate::tables::Tables;
 use machine::{Refusal, Task};
+
+// The index that a number is, where there are so many entries; a stranger past them.
+pub(crate) fn known<const N: u16>(number: u16, entries: u16) -> Result<Below<N>, Refusal>
+    requires { entries ≤ N }
+    ensures { MatchResult result (λ found. (found.number ≡ number) × (nat_lt number entries ≡ true)) (λ refused. (refused ≡ Stranger) × (nat_lt number entries ≡ false)) }
+{
+    if number < entries {
+        Ok(Below { number })
+    } else {
+        Err(Refusal::Stranger)
+    }
+}
 
 impl Tables {
     // The worker of a number.
     pub(crate) fn worker(&self, number: u16) -> Result<WorkerId, Refusal>
         ensures { MatchResult result (λ found. (found.number ≡ number) × (is_worker self.now.core number ≡ true)) (λ refused. (refused ≡ Stranger) × (is_worker self.now.core number ≡ false)) }
     {
-        if number >= self.core.form.workers {
-            return Err(Refusal::Stranger);
-        }
-        Ok(id(number))
+        known(number, self.core.form.workers)
     }
 
     // The hold of a number.
     pub(crate) fn hold(&self, number: u16) -> Result<HoldId, Refusal>
         ensures { MatchResult result (λ found. (found.number ≡ number) × (is_hold self.now.core number ≡ true)) (λ refused. (refused ≡ Stranger) × (is_hold self.now.core number ≡ false)) }
     {
-        if number >= self.core.form.holds {
-            return Err(Refusal::Stranger);
-        }
-        Ok(id(number))
+        known(number, self.core.form.holds)
     }
 
     // The cell of a number.
     pub(crate) fn cell(&self, number: u16) -> Result<CellId, Refusal>
         ensures { MatchResult result (λ found. (found.number ≡ number) × (is_cell self.now.core number ≡ true)) (λ refused. (refused ≡ Stranger) × (is_cell self.now.core number ≡ false)) }
     {
-        if number >= 16 + 2 * self.core.form.blocks {
-            return Err(Refusal::Stranger);
-        }
-        Ok(id(number))
+        known(number, 16 + 2 * self.core.form.blocks)
     }
 
     // The block of a number.
     pub(crate) fn block(&self, number: u16) -> Result<BlockId, Refusal>
         ensures { MatchResult result (λ found. (found.number ≡ number) × (is_block self.now.core number ≡ true)) (λ refused. (refused ≡ Stranger) × (is_block self.now.core number ≡ false)) }
     {
-        if number >= self.core.form.blocks {
-            return Err(Refusal::Stranger);
-        }
-        Ok(id(number))
+        known(number, self.core.form.blocks)
     }
 
     // The block of a number, if one is given.

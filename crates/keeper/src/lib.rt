@@ -19,4 +19,5 @@ mod tasks;
 mod trying;
 mod turns;
 
+pub use answers::Told;
 pub use keepers::Keeper;

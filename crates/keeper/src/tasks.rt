@@ -1,6 +1,5 @@
 // A worker moves on to another task, or to another stage of its task.
 ghost use Rattle.std.specs.Prelude.{◌≡◌, true};
-ghost use Rattle.machine.specs.declared.states.HungList.TheVariants.{Off, Empty};
 ghost use Rattle.machine.specs.State.{with_task, place_of};
 ghost use Rattle.machine.specs.Moves.{goes_on};
 ghost use Rattle.machine.specs.Looking.{own_reservation, with_list, with_own_era, with_shown};
@@ -28,17 +27,7 @@ impl Tables {
         self.core.reservations[place.number as usize]
     }
 
-    // Its list becomes another.
-    fn put_list(&mut self, worker: WorkerId, hold: HoldId, list: HungList)
-        requires { list_fits list ≡ true }
-        ensures { self.new.core ≡ with_list self.old.core worker.number hold.number list }
-    {
-        let own = self.own(worker, hold);
-        let place = self.place_of(worker, hold);
-        self.put_reservation(place, Reservation { list, ..own });
-    }
-
-    // Its era becomes another.
+    // The era of that becomes another.
     pub(crate) fn put_era(&mut self, worker: WorkerId, hold: HoldId, era: u32)
         ensures { self.new.core ≡ with_own_era self.old.core worker.number hold.number era }
     {
@@ -67,21 +56,21 @@ impl Tables {
         Ok((true, None))
     }
 
-    // The list of the worker's hold becomes empty, and the worker has another task.
-    pub(crate) fn empty(&mut self, worker: WorkerId, hold: HoldId, task: Task) -> Plain
-        requires { task_fits task ≡ true }
-        ensures { plain self.new.core result ≡ goes_on (with_task (with_list self.old.core worker.number hold.number Empty) worker.number task) }
+    // The list of the worker's hold becomes another, and the worker has another task.
+    pub(crate) fn relist(
+        &mut self,
+        worker: WorkerId,
+        hold: HoldId,
+        list: HungList,
+        task: Task,
+    ) -> Plain
+        requires list { list_fits list ≡ true }
+        requires task { task_fits task ≡ true }
+        ensures { plain self.new.core result ≡ goes_on (with_task (with_list self.old.core worker.number hold.number list) worker.number task) }
     {
-        self.put_list(worker, hold, HungList::Empty);
-        self.go_on(worker, task)
-    }
-
-    // It is turned off, and the worker has another task.
-    pub(crate) fn turn_off(&mut self, worker: WorkerId, hold: HoldId, task: Task) -> Plain
-        requires { task_fits task ≡ true }
-        ensures { plain self.new.core result ≡ goes_on (with_task (with_list self.old.core worker.number hold.number Off) worker.number task) }
-    {
-        self.put_list(worker, hold, HungList::Off);
+        let own = self.own(worker, hold);
+        let place = self.place_of(worker, hold);
+        self.put_reservation(place, Reservation { list, ..own });
         self.go_on(worker, task)
     }
 }

@@ -58,10 +58,10 @@ impl Tables {
                 self.go_on(worker, LookWrite { hold, cell, era })
             }
             (LookList { hold, cell, .. }, Off) => {
-                self.empty(worker, id(hold), LookAgain { hold, cell })
+                self.relist(worker, id(hold), Empty, LookAgain { hold, cell })
             }
             (LookList { hold, cell, .. }, Newest(next)) => {
-                self.empty(worker, id(hold), LookWalk { hold, cell, next })
+                self.relist(worker, id(hold), Empty, LookWalk { hold, cell, next })
             }
             (LookWalk { hold, cell, next }, _) => {
                 return self.look_walk(pool, worker, id(hold), id(cell), id(next));
@@ -69,9 +69,9 @@ impl Tables {
             (LookAgain { hold, cell }, _) => self.look_again(worker, id(hold), id(cell)),
             (LookWrite { hold, cell, era }, _) => self.reserve(worker, id(hold), id(cell), era),
             (DropList { hold }, Newest(next)) => {
-                self.turn_off(worker, id(hold), DropWalk { hold, next })
+                self.relist(worker, id(hold), Off, DropWalk { hold, next })
             }
-            (DropList { hold }, Off | Empty) => self.turn_off(worker, id(hold), DropEra { hold }),
+            (DropList { hold }, _) => self.relist(worker, id(hold), Off, DropEra { hold }),
             (DropWalk { hold, next }, _) => {
                 return self.drop_walk(pool, worker, id(hold), id(next));
             }

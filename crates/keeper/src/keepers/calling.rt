@@ -6,14 +6,13 @@ ghost use Rattle.machine.specs.Calls.{take, look, drop, retire, relink};
 ghost use Rattle.machine.specs.Turns.{turn};
 ghost use Rattle.keeper.specs.Called.{called, call_of};
 
-use crate::answers::{placed, plain};
+use crate::answers::{Told, placed, plain};
 use crate::keepers::Keeper;
-use machine::KeeperFault;
 use pools::Pool;
 
 impl<P: Pool> Keeper<P> {
     // Begins to take a block from the pool.
-    pub fn take(&mut self, worker: u16) -> Result<(bool, Option<u16>, u16), KeeperFault>
+    pub fn take(&mut self, worker: u16) -> Told
         ensures call { called self.new.tables.core (P.Pool.inside self.new.pool) result ≡ call_of worker (over (take self.old.tables.core worker) (P.Pool.inside self.old.pool) (P.Pool.next self.old.pool)) }
         ensures pool { self.new.pool ≡ self.old.pool }
     {
@@ -21,12 +20,7 @@ impl<P: Pool> Keeper<P> {
     }
 
     // Begins to look at a cell with one of the worker's holds.
-    pub fn look(
-        &mut self,
-        worker: u16,
-        hold: u16,
-        cell: u16,
-    ) -> Result<(bool, Option<u16>, u16), KeeperFault>
+    pub fn look(&mut self, worker: u16, hold: u16, cell: u16) -> Told
         ensures call { called self.new.tables.core (P.Pool.inside self.new.pool) result ≡ call_of worker (over (look self.old.tables.core worker hold cell) (P.Pool.inside self.old.pool) (P.Pool.next self.old.pool)) }
         ensures pool { self.new.pool ≡ self.old.pool }
     {
@@ -34,7 +28,7 @@ impl<P: Pool> Keeper<P> {
     }
 
     // Begins to drop all of the worker's holds.
-    pub fn drop(&mut self, worker: u16) -> Result<(bool, Option<u16>, u16), KeeperFault>
+    pub fn drop(&mut self, worker: u16) -> Told
         ensures call { called self.new.tables.core (P.Pool.inside self.new.pool) result ≡ call_of worker (over (drop self.old.tables.core worker) (P.Pool.inside self.old.pool) (P.Pool.next self.old.pool)) }
         ensures pool { self.new.pool ≡ self.old.pool }
     {
@@ -42,11 +36,7 @@ impl<P: Pool> Keeper<P> {
     }
 
     // Gives up a block that was cut out of the tree; where the worker's batch is due, a try begins.
-    pub fn retire(
-        &mut self,
-        worker: u16,
-        block: u16,
-    ) -> Result<(bool, Option<u16>, u16), KeeperFault>
+    pub fn retire(&mut self, worker: u16, block: u16) -> Told
         ensures call { called self.new.tables.core (P.Pool.inside self.new.pool) result ≡ call_of worker (over (retire self.old.tables.core worker block) (P.Pool.inside self.old.pool) (P.Pool.next self.old.pool)) }
         ensures pool { self.new.pool ≡ self.old.pool }
     {
@@ -60,7 +50,7 @@ impl<P: Pool> Keeper<P> {
         cell: u16,
         expected: Option<u16>,
         new: Option<u16>,
-    ) -> Result<(bool, Option<u16>, u16), KeeperFault>
+    ) -> Told
         ensures call { called self.new.tables.core (P.Pool.inside self.new.pool) result ≡ call_of worker (over (relink self.old.tables.core worker cell expected new) (P.Pool.inside self.old.pool) (P.Pool.next self.old.pool)) }
         ensures pool { self.new.pool ≡ self.old.pool }
     {
@@ -71,7 +61,7 @@ impl<P: Pool> Keeper<P> {
     }
 
     // Does one step of the worker's task.
-    pub fn turn(&mut self, worker: u16) -> Result<(bool, Option<u16>, u16), KeeperFault>
+    pub fn turn(&mut self, worker: u16) -> Told
         ensures { called self.new.tables.core (P.Pool.inside self.new.pool) result ≡ call_of worker (over (turn self.old.tables.core (P.Pool.inside self.old.pool) (P.Pool.next self.old.pool) worker) (P.Pool.inside self.old.pool) (P.Pool.next self.old.pool)) }
     {
         placed(worker, self.tables.turn(&mut self.pool, worker))
