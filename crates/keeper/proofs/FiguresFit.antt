@@ -1,7 +1,9 @@
 -- The limits of the figures of a keeper.
-use Rattle.std.proofs.Common.{◌≡◌, Bool, true, false, leb, refl, arith}
+use Rattle.std.proofs.Common.{◌≡◌, Bool, true, false, leb, Ok, Err, Result, is_ok, sym, refl, arith}
 use Rattle.std.proofs.lemmas.Bool.Decides.{nat_tests}
 use Rattle.figures.specs.Limits.{value, most, Fits, Fit, Outside}
+use Rattle.std.specs.Result.{MatchResult}
+use Rattle.figures.specs.declared.checked.Figures.{Figures}
 use Rattle.figures.specs.declared.refusals.Refusal.{Refusal}
 use Rattle.figures.specs.declared.refusals.Refusal.TheVariants.{Misfit}
 use Rattle.figures.specs.declared.limits.Figure.{Figure}
@@ -30,7 +32,7 @@ form_fit form e =
     let s = seven (fits form Workers) (fits form Holds) (fits form Blocks) (fits form Live) (fits form TakingPeriod) (fits form TryingPeriod) (fits form StartingEra) e in
     (figure_fit form Workers s.0, figure_fit form Holds s.1, figure_fit form Blocks s.2, figure_fit form Live s.3, figure_fit form TakingPeriod s.4, figure_fit form TryingPeriod s.5, figure_fit form StartingEra s.6)
 
-pub form_test : (form : Form) → Fit form → all_fit form ≡ true
+form_test : (form : Form) → Fit form → all_fit form ≡ true
 form_test form h =
     together (fits form Workers) (fits form Holds) (fits form Blocks) (fits form Live) (fits form TakingPeriod) (fits form TryingPeriod) (fits form StartingEra)
     (figure_test form Workers h.0) (figure_test form Holds h.1) (figure_test form Blocks h.2) (figure_test form Live h.3) (figure_test form TakingPeriod h.4) (figure_test form TryingPeriod h.5) (figure_test form StartingEra h.6)
@@ -46,9 +48,14 @@ each_fit form h TryingPeriod = h.5
 each_fit form h StartingEra = h.6
 
 -- a form that is refused does not
-pub outside_test : (form : Form) (r : Refusal) → Outside form r → all_fit form ≡ false
+outside_test : (form : Form) (r : Refusal) → Outside form r → all_fit form ≡ false
 outside_test form (Misfit figure) h = decided (all_fit form) refl
   where
     decided : (b : Bool) → all_fit form ≡ b → b ≡ false
     decided true e = absurd (h.0 (each_fit form (form_fit form e) figure))
     decided false e = refl
+
+-- whether figures are made of a form tells whether all of them are within their limits
+pub made_test : (form : Form) (r : Result Figures Refusal) → MatchResult r (λ (figures : Figures). (figures.form ≡ form) × Fit form) (Outside form) → is_ok r ≡ all_fit form
+made_test form (Ok figures) h = sym (form_test form h.1)
+made_test form (Err refused) h = sym (outside_test form refused h)

@@ -5,8 +5,9 @@ use Rattle.machine.specs.declared.states.Batch.{Batch}
 use Rattle.machine.specs.declared.states.Block.{Block}
 use Rattle.machine.specs.Cells.{with_link}
 use Rattle.machine.specs.Taking.{taken_block}
-use Rattle.machine.specs.Calls.{newest_of, retired_block}
-use Rattle.machine.specs.Trying.{with_slot}
+use Rattle.machine.specs.Walking.{with_count}
+use Rattle.machine.specs.Calls.{newest_of, retired_block, joined}
+use Rattle.machine.specs.Trying.{with_slot, with_under}
 use Rattle.machine.proofs.Passing.{both_left, both_right}
 use Rattle.keeper.specs.Fits.{number_fits, batch_fits, block_fits}
 use Rattle.keeper.proofs.InRange.{seven, together}
@@ -48,3 +49,18 @@ module _ (x : Block) (h : block_fits x ≡ true) where
       let s = tests in
       together (number_fits (get_or x.links 0 None)) (number_fits (get_or x.links 1 None)) (number_fits x.under) (number_fits (newest_of o)) (ltb x.slot 32) (ltb batch.lead 2048) (ltb x.newest 2048)
       s.0 s.1 s.2 (newest_fits o own) s.4 (both_left (ltb batch.lead 2048) (ltb batch.newest 2048) joined) s.6
+
+  pub under_fits : (o : Option ℕ) → number_fits o ≡ true → block_fits (with_under x o) ≡ true
+  under_fits o n =
+      let s = tests in
+      together (number_fits (get_or x.links 0 None)) (number_fits (get_or x.links 1 None)) (number_fits o) (number_fits x.elder) (ltb x.slot 32) (ltb x.lead 2048) (ltb x.newest 2048) s.0 s.1 n s.3 s.4 s.5 s.6
+
+  pub recounted_fits : (count newest : ℕ) → newest < 2048 → block_fits (with_count x count newest) ≡ true
+  recounted_fits count newest low =
+      let s = tests in
+      together (number_fits (get_or x.links 0 None)) (number_fits (get_or x.links 1 None)) (number_fits x.under) (number_fits x.elder) (ltb x.slot 32) (ltb x.lead 2048) (ltb newest 2048) s.0 s.1 s.2 s.3 s.4 s.5 (grind (arith, nat_tests, low))
+
+-- a batch that a block has joined
+pub joined_fits : (o : Option Batch) (b e : ℕ) → batch_fits o ≡ true → b < 2048 → batch_fits (Some (joined o b e)) ≡ true
+joined_fits None b e own low = grind (arith, nat_tests, low)
+joined_fits (Some x) b e own low = let lead = both_left (ltb x.lead 2048) (ltb x.newest 2048) own in grind (arith, nat_tests, low, lead)

@@ -1,13 +1,14 @@
 -- Tasks whose numbers fit.
-use Rattle.std.proofs.Common.{◌≡◌, ℕ, ◌+◌, ◌*◌, ◌<◌, ◌≤◌, Bool, true, ◌&&◌, eqb, ltb, leb, Some, None, Option, unwrap_or, refl, mul-le-mul_right, arith}
+use Rattle.std.proofs.Common.{◌≡◌, ℕ, ◌+◌, ◌-◌, ◌*◌, ◌<◌, ◌≤◌, Bool, true, ◌&&◌, eqb, ltb, leb, Some, None, Option, unwrap_or, refl, mul-le-mul_right, arith}
 use Rattle.std.proofs.lemmas.Bool.Decides.{nat_tests}
 use Rattle.machine.specs.declared.states.Batch.{Batch}
+use Rattle.machine.specs.declared.states.Task.TheVariants.{TryHang}
 use Rattle.machine.specs.declared.states.Core.{Core}
 use Rattle.machine.specs.State.{block}
 use Rattle.machine.specs.Looking.{look_on}
 use Rattle.machine.specs.Dropping.{drop_on}
 use Rattle.machine.specs.Machine.{all_fit}
-use Rattle.machine.specs.Trying.{places, block_after, visited}
+use Rattle.machine.specs.Trying.{places, block_after, visited, hanged}
 use Rattle.machine.proofs.Passing.{by_test}
 use Rattle.keeper.specs.Fits.{number_fits, task_fits, batch_fits, block_fits}
 use Rattle.keeper.proofs.InRange.{block_ranges, batch_ranges}
@@ -48,3 +49,16 @@ visited_fits k x r b aside f hx hr hb ha =
     (λ _. by_test (λ t. task_fits t ≡ true) (eqb aside 0) _ _
     (λ _. refl)
     (λ e. let low = (batch_ranges x hx).1 in triple (ltb x.newest 2048) (ltb 0 aside) (leb (0 + aside) 32) (grind (arith, nat_tests, low)) (grind (arith, nat_tests, e)) (grind (arith, nat_tests, ha, hr))))
+
+-- what follows a hanging
+pub hanged_fits : (k : Core) (x : Batch) (b left hung m : ℕ) → batch_fits (Some x) ≡ true → block_fits (block k b) ≡ true → task_fits (TryHang b left hung) ≡ true → m ≤ hung + 1 → task_fits (hanged k x b left m) ≡ true
+hanged_fits k x b left hung m own fits h hm =
+    let q = parts (ltb b 2048) (ltb 0 left) (leb (hung + left) 32) h in
+    let some = q.0 in
+    let few = q.1 in
+    by_test (λ t. task_fits t ≡ true) (ltb 1 left) _ _
+    (λ e. let low = after_low k x b own fits in triple (ltb (block_after k x b) 2048) (ltb 0 (left - 1)) (leb (m + (left - 1)) 32) (grind (arith, nat_tests, low)) (grind (arith, nat_tests, e)) (grind (arith, nat_tests, e, few, hm)))
+    (λ e. grind (arith, nat_tests, few, some, hm))
+  where
+    parts : (a b c : Bool) → (a && b && c) ≡ true → (b ≡ true) × (c ≡ true)
+    parts a b c h = (grind (arith, h), grind (arith, h))

@@ -23,7 +23,7 @@ members_zero zero k next e = refl
 members_zero (suc n) k next e = absurd (omega arith)
 
 -- one block, and those after it
-pub members_step : (m n : ℕ) (k : Core) (b : ℕ) → m ≡ n + 1 → members m k (Some b) ≡ b ∷ members n k (block k b).elder
+members_step : (m n : ℕ) (k : Core) (b : ℕ) → m ≡ n + 1 → members m k (Some b) ≡ b ∷ members n k (block k b).elder
 members_step m n k b e = ap (λ i. members i k (Some b)) (let f : m ≡ suc n = omega arith in f)
 
 -- a block that goes into the pool stays in its batch's order
@@ -32,7 +32,7 @@ members_kept zero k j e next = refl
 members_kept (suc n) k j e None = refl
 members_kept (suc n) k j e (Some b) = ap (λ bs. b ∷ bs) (members_kept n k j e (block j b).elder ∙ ap (members n k) (e b))
 
-pub members_pooled : (n : ℕ) (k : Core) (b : ℕ) (next : Option ℕ) → members n (with_block k b (pooled (block k b))) next ≡ members n k next
+members_pooled : (n : ℕ) (k : Core) (b : ℕ) (next : Option ℕ) → members n (with_block k b (pooled (block k b))) next ≡ members n k next
 members_pooled n k b next = members_kept n k (with_block k b (pooled (block k b))) (λ i. ap (λ f. f i) (field_kept (λ (y : Block). y.elder) blank_block k.blocks.rows b (pooled (block k b)) refl)) next
 
 -- a bit is at most 1

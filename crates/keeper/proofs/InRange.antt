@@ -1,9 +1,8 @@
 -- What a number that fits is below.
-use Rattle.std.proofs.Common.{◌≡◌, ℕ, ◌<◌, Bool, true, ◌&&◌, ltb, get_or, Some, None, arith}
+use Rattle.std.proofs.Common.{◌≡◌, ◌<◌, Bool, true, ◌&&◌, ltb, get_or, Some, None, arith}
 use Rattle.std.proofs.lemmas.Bool.Decides.{nat_tests}
 use Rattle.machine.specs.declared.states.Batch.{Batch}
 use Rattle.machine.specs.declared.states.Block.{Block}
-use Rattle.machine.specs.Walking.{with_count}
 use Rattle.keeper.specs.Fits.{number_fits, batch_fits, block_fits}
 
 -- seven tests that are passed together
@@ -27,11 +26,3 @@ block_ranges x h =
 -- those of a batch
 pub batch_ranges : (x : Batch) → batch_fits (Some x) ≡ true → (x.lead < 2048) × (x.newest < 2048)
 batch_ranges x h = (grind (arith, nat_tests), grind (arith, nat_tests))
-
--- a block with another count and newest block
-pub recounted_fits : (x : Block) (count newest : ℕ) → block_fits x ≡ true → newest < 2048 → block_fits (with_count x count newest) ≡ true
-recounted_fits x count newest h low =
-    let r = block_ranges x h in
-    let t : ltb newest 2048 ≡ true = grind (arith, nat_tests, low) in
-    let f = seven (number_fits (get_or x.links 0 None)) (number_fits (get_or x.links 1 None)) (number_fits x.under) (number_fits x.elder) (ltb x.slot 32) (ltb x.lead 2048) (ltb x.newest 2048) h in
-    together (number_fits (get_or x.links 0 None)) (number_fits (get_or x.links 1 None)) (number_fits x.under) (number_fits x.elder) (ltb x.slot 32) (ltb x.lead 2048) (ltb newest 2048) f.0 f.1 f.2 f.3 f.4 f.5 t

@@ -1,4 +1,3 @@
-pub mod Places
 pub mod InRange
 pub mod FiguresFit
 pub mod GivenBack

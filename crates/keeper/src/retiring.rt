@@ -1,5 +1,6 @@
 // Retiring a block that was cut out of the tree.
 ghost use Rattle.std.specs.Prelude.{◌≡◌, Some, true};
+ghost use Rattle.machine.specs.State.{block as block_of, worker as worker_of};
 ghost use Rattle.machine.specs.Calls.{joined, retired, with_batch, retire};
 ghost use Rattle.keeper.specs.Called.{plain};
 ghost use Rattle.keeper.specs.Fits.{task_fits, batch_fits};
@@ -9,27 +10,29 @@ use crate::ranges::{BlockId, Content, WorkerId};
 use crate::tables::Tables;
 use machine::{Batch, Refusal, Task, Worker};
 
-// A worker's own batch after a block that was born at an era has joined it: the first to join is the lead.
-fn joined(own: Option<Batch>, block: u16, birth: u32) -> Batch
-    ensures { result ≡ joined own block birth }
-{
-    match own {
-        None => Batch {
-            lead: block,
-            newest: block,
-            size: 1,
-            least: birth,
-        },
-        Some(batch) => Batch {
-            lead: batch.lead,
-            newest: block,
-            size: batch.size.saturating_add(1),
-            least: batch.least.min(birth),
-        },
-    }
-}
-
 impl Tables {
+    // The worker's own batch after the block has joined it: the first to join is the lead.
+    fn joined(&self, worker: WorkerId, block: BlockId) -> Batch
+        ensures value { result ≡ joined (worker_of self.now.core worker.number).batch block.number (block_of self.now.core block.number).birth }
+        ensures fits { batch_fits (Some result) ≡ true }
+    {
+        let birth = self.core.blocks.rows[block.number as usize].birth;
+        match self.core.workers[worker.number as usize].batch {
+            None => Batch {
+                lead: block.number,
+                newest: block.number,
+                size: 1,
+                least: birth,
+            },
+            Some(own) => Batch {
+                lead: own.lead,
+                newest: block.number,
+                size: own.size.saturating_add(1),
+                least: own.least.min(birth),
+            },
+        }
+    }
+
     // The block leaves the live ones, its links no longer count, and it joins the worker's batch, which is `batch` then.
     fn withdraw(&mut self, worker: WorkerId, block: BlockId, batch: Batch)
         requires { batch_fits (Some batch) ≡ true }
@@ -71,12 +74,10 @@ impl Tables {
         if !self.is_live(cut) {
             return Err(Refusal::Withdrawn);
         }
-        let row = self.core.blocks.rows[block as usize];
-        if row.names != 0 {
+        if self.core.blocks.rows[block as usize].names != 0 {
             return Err(Refusal::Linked);
         }
-        let own = self.core.workers[worker.number as usize].batch;
-        let batch = joined(own, block, row.birth);
+        let batch = self.joined(worker, cut);
         let due = batch.size % self.core.form.trying_period == 0;
         self.withdraw(worker, cut, batch);
         if due {

@@ -1,10 +1,23 @@
-use Rattle.std.proofs.Common.{◌≡◌, ℕ, ◌+◌, ◌-◌, ◌≤◌, ◌∙◌, arith}
+use Rattle.std.proofs.Common.{◌≡◌, ℕ, ◌+◌, ◌-◌, ◌≤◌, true, ◌∙◌, subst, arith}
 use Rattle.machine.specs.State.{block}
+use Rattle.keeper.specs.Fits.{batch_fits}
+use Rattle.keeper.proofs.InRange.{batch_ranges}
+use Rattle.keeper.proofs.FitsRows.{recounted_fits}
 use Rattle.keeper.proofs.GivenBack.{settle_comes}
 use Rattle.keeper.proofs.tables.Tables.last.Goals as goal
 
 less : (count hung : ℕ) → hung ≤ 32 → count - (1024 - hung) ≡ count + hung - 1024
 less count hung h = omega arith
+
+pub put_block-requires : goal.put_block-requires
+put_block-requires g c =
+    let s = c.args.self.now in
+    let batch = c.in-Some.batch in
+    let own = batch_ranges batch (subst (λ o. batch_fits o ≡ true) c.in-Some.is (s.batches c.args.worker.number)) in
+    recounted_fits (block s.core batch.lead) (s.blocks batch.lead) c.saturating_sub-count.result batch.newest own.1
+
+pub put_worker-requires-clause-takings : goal.put_worker-requires-clause-takings
+put_worker-requires-clause-takings g c = c.give_due-given.new.self.takings c.args.worker.number
 
 pub returns : goal.returns
 returns g c =
