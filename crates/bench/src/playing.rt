@@ -50,7 +50,7 @@ fn lines_over<P: Pool + Drop, K: Kind>(
     match play(heap, form, pool, table.as_mut_slice(), calls) {
         Ok(played) => numbered(heap, played.answers.as_slice()),
         Err(PlayFault::Refused(refused)) => alone(heap, Line::of_making(Fault::from(refused))),
-        Err(PlayFault::NoMemory) => Err(AllocError),
+        Err(PlayFault::NoMemory(error)) => Err(error),
     }
 }
 

@@ -40,4 +40,4 @@ PlayedSo form inside table calls answers end = (numbers : List ℕ) × Run form 
 -- why nothing was played; the table is then as it was
 abbrev pub Declined : {R : Type 0} → PlayFault → Form → List Bool → List R → List R → Type 0
 Declined (Refused fault) form inside table later = (make form inside ≡ Err fault) × (later ≡ table)
-Declined NoMemory form inside table later = later ≡ table
+Declined (NoMemory error) form inside table later = later ≡ table

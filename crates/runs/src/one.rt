@@ -1,23 +1,24 @@
 // One call of any kind.
-ghost use Rattle.std.specs.Prelude.{◌≡◌};
-ghost use Rattle.machine.specs.Machine.{after};
-ghost use Rattle.keeper.specs.Tables.{state, wrote, showed};
+ghost use Rattle.std.specs.Prelude.{◌≡◌, Ok};
+ghost use Rattle.machine.specs.Machine.{after, finished};
+ghost use Rattle.keeper.specs.Tables.{state};
 ghost use Rattle.runs.specs.Replies.{reply_of};
 
 use keeper::Keeper;
 use machine::{Answer, Call, KeeperFault, Value};
 use pools::Pool;
 
-// A call's answer with a block as its value.
+// What a keeper answers, a flag, a value and a count, with a block as its value.
 fn with_block<R: Copy>(
     done: Result<(bool, Option<u16>, u16), KeeperFault>,
 ) -> Result<Answer<R>, KeeperFault>
     ensures { result ≡ reply_of done }
 {
     let (goes_on, value, given) = done?;
+    // not by `map`: no proof is made of one with a function whose result names R and whose argument does not
     let value = match value {
-        None => None,
         Some(block) => Some(Value::Block(block)),
+        None => None,
     };
     Ok(Answer {
         goes_on,
@@ -26,31 +27,19 @@ fn with_block<R: Copy>(
     })
 }
 
-// A write's answer.
-fn with_nothing<R: Copy>(done: Result<(), KeeperFault>) -> Result<Answer<R>, KeeperFault>
-    ensures { result ≡ wrote done }
+// The answer of a call that is finished with a value.
+fn finished<R: Copy>(value: Option<Value<R>>) -> Answer<R>
+    ensures { Ok result ≡ finished value }
 {
-    done?;
-    Ok(Answer {
+    Answer {
         goes_on: false,
-        value: None,
+        value,
         given: 0,
-    })
-}
-
-// A read's answer.
-fn with_record<R: Copy>(done: Result<R, KeeperFault>) -> Result<Answer<R>, KeeperFault>
-    ensures { result ≡ showed done }
-{
-    let found = done?;
-    Ok(Answer {
-        goes_on: false,
-        value: Some(Value::Record(found)),
-        given: 0,
-    })
+    }
 }
 
 // Does one call, with a table of records.
+#[tactic(auto, using(crate::proofs::Asked::placed_told))]
 pub fn ask<P: Pool, R: Copy>(
     keeper: &mut Keeper<P>,
     table: &mut [R],
@@ -74,8 +63,14 @@ pub fn ask<P: Pool, R: Copy>(
             worker,
             block,
             value,
-        } => with_nothing(keeper.write(table, worker, block, value)),
-        Call::Read { worker, hold } => with_record(keeper.read(table, worker, hold)),
+        } => {
+            keeper.write(table, worker, block, value)?;
+            Ok(finished(None))
+        }
+        Call::Read { worker, hold } => {
+            let found = keeper.read(table, worker, hold)?;
+            Ok(finished(Some(Value::Record(found))))
+        }
         Call::Turn { worker } => with_block(keeper.turn(worker)),
     }
 }

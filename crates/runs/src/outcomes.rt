@@ -7,10 +7,10 @@ use machine::{Answer, KeeperFault};
 use std::alloc::AllocError;
 
 // Why nothing was played: the making was refused, or there is no memory for the answers.
-#[derive(Clone, Copy)]
+#[derive(Clone, Copy, PartialEq, Eq, Debug)]
 pub enum PlayFault {
     Refused(KeeperFault),
-    NoMemory,
+    NoMemory(AllocError),
 }
 
 impl From<KeeperFault> for PlayFault {
@@ -22,10 +22,10 @@ impl From<KeeperFault> for PlayFault {
 }
 
 impl From<AllocError> for PlayFault {
-    ghost from_gives = { λ _ r. r ≡ NoMemory };
+    ghost from_gives = { λ error r. r ≡ NoMemory error };
 
-    fn from(_error: AllocError) -> PlayFault {
-        PlayFault::NoMemory
+    fn from(error: AllocError) -> PlayFault {
+        PlayFault::NoMemory(error)
     }
 }
 
