@@ -60,8 +60,8 @@ fn lines_on<K: Kind>(
     script: &Script,
     calls: &[Call<K>],
 ) -> Result<Vec<Line>, AllocError> {
-    let form = script.making.form;
-    let refused = match script.making.pool {
+    let form = script.form;
+    let refused = match script.pool {
         PoolKind::Stack => match Stack::new(form.blocks) {
             Ok(pool) => return lines_over(heap, form, pool, calls),
             Err(refused) => refused,

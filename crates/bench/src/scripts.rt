@@ -1,14 +1,15 @@
 // Texts of runs: each begins with a line `run NAME` and a line of figures, and then has a call on a line.
-ghost use Rattle.std.specs.Prelude.{◌<◌, ◌≤◌, length, IfOk, Some};
+ghost use Rattle.std.specs.Prelude.{Some};
 ghost use Rattle.bench.specs.Lines.{wanted_text, fault_text};
 
 use crate::calls::call_of;
-use crate::words::{figure, small_figure, words_of};
+use crate::words::{TextLine, figure, text_lines};
 use figures::Form;
 use machine::Call;
 use records::{Branch, Kind, Reading};
 use std::alloc::{AllocError, AllocFailed, Global};
 use std::fmt;
+use std::str::FromStr;
 
 // Which pool a keeper has.
 #[derive(Clone, Copy)]
@@ -17,19 +18,43 @@ pub enum PoolKind {
     Row,
 }
 
+impl FromStr for PoolKind {
+    type Err = ();
+
+    fn from_str(word: &str) -> Result<PoolKind, ()> {
+        match word {
+            "stack" => Ok(PoolKind::Stack),
+            "row" => Ok(PoolKind::Row),
+            _ => Err(()),
+        }
+    }
+}
+
 // Which kind of record the table has.
 #[derive(Clone, Copy)]
-pub enum RecordKind {
+enum RecordKind {
     Readings,
     Branches,
 }
 
-// What a keeper is made with.
+impl FromStr for RecordKind {
+    type Err = ();
+
+    fn from_str(word: &str) -> Result<RecordKind, ()> {
+        match word {
+            "1" => Ok(RecordKind::Readings),
+            "2" => Ok(RecordKind::Branches),
+            _ => Err(()),
+        }
+    }
+}
+
+// What a keeper is made with, and the kind of its table's records.
 #[derive(Clone, Copy)]
-pub struct Making {
-    pub form: Form,
-    pub pool: PoolKind,
-    pub kind: RecordKind,
+struct Making {
+    form: Form,
+    pool: PoolKind,
+    kind: RecordKind,
 }
 
 // The calls of a run, with records of one kind.
@@ -43,7 +68,8 @@ pub enum Calls {
 #[derive(Drop)]
 pub struct Script {
     pub name: String,
-    pub making: Making,
+    pub form: Form,
+    pub pool: PoolKind,
     pub calls: Calls,
 }
 
@@ -76,137 +102,70 @@ impl<T: Drop> From<AllocFailed<T>> for ScriptFault {
 
 // What the words of a line of figures say.
 fn making_of(words: &[&str]) -> Option<Making> {
-    match words {
-        ["make", w, h, n, m, f, g, era, pool, kind] => {
-            let form = Form {
-                workers: small_figure(w, "W=")?,
-                holds: small_figure(h, "H=")?,
-                blocks: small_figure(n, "N=")?,
-                live: small_figure(m, "M=")?,
-                taking_period: small_figure(f, "F=")?,
-                trying_period: small_figure(g, "G=")?,
-                starting_era: figure(era, "era=")?,
-            };
-            Some(Making {
-                form,
-                pool: pool_of(pool)?,
-                kind: kind_of(kind)?,
-            })
-        }
-        _ => None,
-    }
+    let ["make", w, h, n, m, f, g, era, pool, kind] = words else {
+        return None;
+    };
+    let form = Form {
+        workers: figure(w, "W=")?,
+        holds: figure(h, "H=")?,
+        blocks: figure(n, "N=")?,
+        live: figure(m, "M=")?,
+        taking_period: figure(f, "F=")?,
+        trying_period: figure(g, "G=")?,
+        starting_era: figure(era, "era=")?,
+    };
+    Some(Making {
+        form,
+        pool: figure(pool, "pool=")?,
+        kind: figure(kind, "kind=")?,
+    })
 }
 
-// The pool that a word names.
-fn pool_of(word: &str) -> Option<PoolKind> {
-    match word {
-        "pool=stack" => Some(PoolKind::Stack),
-        "pool=row" => Some(PoolKind::Row),
-        _ => None,
-    }
-}
-
-// The kind of record that a word names.
-fn kind_of(word: &str) -> Option<RecordKind> {
-    match word {
-        "kind=1" => Some(RecordKind::Readings),
-        "kind=2" => Some(RecordKind::Branches),
-        _ => None,
-    }
-}
-
-// Whether a line begins another run.
-fn begins_run(words: &[&str]) -> bool {
-    match words {
-        ["run", ..] => true,
-        _ => false,
-    }
-}
-
-// The calls that the lines from `at` on write, up to the next run; and where that begins.
-fn read_calls<K: Kind>(
-    heap: Global,
-    lines: &[&str],
-    at: usize,
-) -> Result<(Vec<Call<K>>, usize), ScriptFault>
-    ensures { IfOk result (λ p. at ≤ p.1) }
-{
+// The calls that lines write; one without words writes none.
+fn read_calls<K: Kind>(heap: Global, lines: &[TextLine]) -> Result<Vec<Call<K>>, ScriptFault> {
     let mut calls = Vec::new(heap);
-    let mut at = at;
-    while at < lines.len() {
-        let words = words_of(heap, lines[at])?;
-        if begins_run(words.as_slice()) {
-            break;
-        }
+    for line in lines {
+        let words = line.words.as_slice();
         if !words.is_empty() {
-            let Some(call) = call_of(words.as_slice()) else {
-                return Err(ScriptFault::BadLine(at + 1, Wanted::OneCall));
-            };
-            calls.push(call)?;
+            let fault = ScriptFault::BadLine(line.number, Wanted::OneCall);
+            calls.push(call_of(words).ok_or(fault)?)?;
         }
-        at += 1;
     }
-    Ok((calls, at))
+    Ok(calls)
 }
 
-// The run that begins at line `at`, and where the next begins.
-fn read_run(heap: Global, lines: &[&str], at: usize) -> Result<(Script, usize), ScriptFault>
-    requires { at < length lines.now }
-    ensures { IfOk result (λ p. at < p.1) }
-{
-    let first = words_of(heap, lines[at])?;
-    let ["run", name] = first.as_slice() else {
-        return Err(ScriptFault::BadLine(at + 1, Wanted::RunName));
+// The run that its first line and the others up to the next run write.
+fn read_run(heap: Global, first: &TextLine, others: &[TextLine]) -> Result<Script, ScriptFault> {
+    let ["run", name] = first.words.as_slice() else {
+        return Err(ScriptFault::BadLine(first.number, Wanted::RunName));
     };
-    if at + 1 >= lines.len() {
-        return Err(ScriptFault::BadLine(at + 2, Wanted::FigureLine));
-    }
-    let second = words_of(heap, lines[at + 1])?;
-    let Some(making) = making_of(second.as_slice()) else {
-        return Err(ScriptFault::BadLine(at + 2, Wanted::FigureLine));
-    };
+    let fault = ScriptFault::BadLine(first.number.saturating_add(1), Wanted::FigureLine);
+    let (figures, lines) = others.split_first().ok_or(fault)?;
+    let Making { form, pool, kind } = making_of(figures.words.as_slice()).ok_or(fault)?;
     let name = String::from_str(heap, name)?;
-    match making.kind {
-        RecordKind::Readings => {
-            let (calls, next) = read_calls(heap, lines, at + 2)?;
-            let calls = Calls::OnReadings(calls);
-            Ok((
-                Script {
-                    name,
-                    making,
-                    calls,
-                },
-                next,
-            ))
-        }
-        RecordKind::Branches => {
-            let (calls, next) = read_calls(heap, lines, at + 2)?;
-            let calls = Calls::OnBranches(calls);
-            Ok((
-                Script {
-                    name,
-                    making,
-                    calls,
-                },
-                next,
-            ))
-        }
-    }
+    let calls = match kind {
+        RecordKind::Readings => Calls::OnReadings(read_calls(heap, lines)?),
+        RecordKind::Branches => Calls::OnBranches(read_calls(heap, lines)?),
+    };
+    Ok(Script {
+        name,
+        form,
+        pool,
+        calls,
+    })
 }
 
 // The runs that a text writes, or the first line that is not as it should be.
 pub fn read_scripts(heap: Global, text: &str) -> Result<Vec<Script>, ScriptFault> {
-    let lines: Vec<&str> = text.lines().collect(heap)?;
+    let lines = text_lines(heap, text)?;
+    let start = lines.iter().position(|line| !line.words.is_empty());
+    let (_, mut rest) = lines.split_at(start.unwrap_or(lines.len()));
     let mut scripts = Vec::new(heap);
-    let mut at = 0;
-    while at < lines.len() {
-        if words_of(heap, lines[at])?.is_empty() {
-            at += 1;
-        } else {
-            let (script, next) = read_run(heap, lines.as_slice(), at)?;
-            scripts.push(script)?;
-            at = next;
-        }
+    while let [first, later @ ..] = rest {
+        let end = later.iter().position(|line| line.begins_run());
+        let (others, next) = later.split_at(end.unwrap_or(later.len()));
+        scripts.push(read_run(heap, first, others)?)?;
+        rest = next;
     }
     Ok(scripts)
 }
