@@ -33,10 +33,9 @@ fn scripts_in(rt: &HostRuntime, file: &str) -> anyhow::Result<Option<Vec<Script>
 // Plays runs one after another.
 fn print_runs(rt: &HostRuntime, scripts: &[Script]) -> anyhow::Result<()> {
     for script in scripts {
-        let name = script.name.as_str();
-        println!(rt; "run {name}")?;
+        println!(rt; "run {}", script.name)?;
         let lines = lines_of(rt.alloc(), script)?;
-        for line in lines.as_slice() {
+        for line in &lines {
             println!(rt; "{line}")?;
         }
     }
@@ -50,13 +49,13 @@ fn main(rt: HostRuntime) -> anyhow::Result<ExitCode> {
         return Ok(ExitCode::FAILURE);
     }
     let mut texts = Vec::new(rt.alloc());
-    for file in files.as_slice() {
+    for file in &files {
         let Some(scripts) = scripts_in(&rt, file.as_str())? else {
             return Ok(ExitCode::FAILURE);
         };
         texts.push(scripts)?;
     }
-    for scripts in texts.as_slice() {
+    for scripts in &texts {
         print_runs(&rt, scripts.as_slice())?;
     }
     Ok(ExitCode::SUCCESS)

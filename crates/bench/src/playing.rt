@@ -1,6 +1,7 @@
 // Playing a run.
-ghost use Rattle.std.specs.Prelude.{◌≡◌, [], ◌∷◌, replicate, IfOk};
-ghost use Rattle.bench.specs.Lines.{lines_from};
+ghost use Rattle.std.specs.Prelude.{◌≡◌, [], ◌∷◌, replicate, IfOk, MatchResult};
+ghost use Rattle.pools.specs.Refusals.{fault};
+ghost use Rattle.bench.specs.Lines.{lines_from, refused_line};
 ghost use Rattle.bench.specs.PrintedRuns.{PrintedRun};
 
 use crate::lines::Line;
@@ -8,7 +9,7 @@ use crate::scripts::{Calls, PoolKind, Script};
 use faults::Fault;
 use figures::Form;
 use machine::{Answer, Call, KeeperFault};
-use pools::{Pool, Row, Stack};
+use pools::{Pool, PoolFault, Row, Stack};
 use records::{Kind, fresh_table};
 use runs::{PlayFault, play};
 use std::alloc::{AllocError, Global};
@@ -20,36 +21,37 @@ fn numbered<K: Kind>(
 ) -> Result<Vec<Line>, AllocError>
     ensures { IfOk result (λ lines. lines.items ≡ lines_from K.Kind.encoded 0 answers.now) }
 {
-    let mut lines = Vec::with_capacity(heap, answers.len())?;
-    for answer in answers {
-        let line = Line::of(lines.len() as u64, *answer);
-        lines.push_reserved(line);
-    }
-    Ok(lines)
+    answers
+        .iter()
+        .enumerate()
+        .map(|(number, answer)| Line::of(number, *answer))
+        .collect(heap)
 }
 
-// One line.
-fn alone(heap: Global, line: Line) -> Result<Vec<Line>, AllocError>
-    ensures { IfOk result (λ lines. lines.items ≡ line ∷ []) }
+// The line of a making that is refused, which is all that is printed then.
+fn refused_alone(heap: Global, refused: Fault) -> Result<Vec<Line>, AllocError>
+    ensures { IfOk result (λ lines. lines.items ≡ refused_line refused ∷ []) }
 {
-    let mut lines = Vec::with_capacity(heap, 1)?;
-    lines.push_reserved(line);
-    Ok(lines)
+    Ok(vec![in heap; Line::of_making(refused)]?)
 }
 
-// The lines of a run over a pool: that of a refused making, or one for each call.
+// The lines of a run: that of a refused making, of the pool or of the keeper, or one for each call.
 fn lines_over<P: Pool + Drop, K: Kind>(
     heap: Global,
     form: Form,
-    pool: P,
+    made: Result<P, PoolFault>,
     calls: &[Call<K>],
 ) -> Result<Vec<Line>, AllocError>
-    ensures { IfOk result (λ lines. PrintedRun K.Kind.encoded form (P.Pool.inside pool) (replicate form.blocks K.Kind.blank) calls.now lines.items) }
+    ensures { IfOk result (λ lines. MatchResult made (λ pool. PrintedRun K.Kind.encoded form (P.Pool.inside pool) (replicate form.blocks K.Kind.blank) calls.now lines.items) (λ refused. lines.items ≡ refused_line (fault refused) ∷ [])) }
 {
-    let mut table = fresh_table::<K>(heap, form.blocks as usize)?;
+    let pool = match made {
+        Ok(pool) => pool,
+        Err(refused) => return refused_alone(heap, Fault::from(refused)),
+    };
+    let mut table = fresh_table::<K>(heap, usize::from(form.blocks))?;
     match play(heap, form, pool, table.as_mut_slice(), calls) {
         Ok(played) => numbered(heap, played.answers.as_slice()),
-        Err(PlayFault::Refused(refused)) => alone(heap, Line::of_making(Fault::from(refused))),
+        Err(PlayFault::Refused(refused)) => refused_alone(heap, Fault::from(refused)),
         Err(PlayFault::NoMemory(error)) => Err(error),
     }
 }
@@ -61,17 +63,10 @@ fn lines_on<K: Kind>(
     calls: &[Call<K>],
 ) -> Result<Vec<Line>, AllocError> {
     let form = script.form;
-    let refused = match script.pool {
-        PoolKind::Stack => match Stack::new(form.blocks) {
-            Ok(pool) => return lines_over(heap, form, pool, calls),
-            Err(refused) => refused,
-        },
-        PoolKind::Row => match Row::new(form.blocks) {
-            Ok(pool) => return lines_over(heap, form, pool, calls),
-            Err(refused) => refused,
-        },
-    };
-    alone(heap, Line::of_making(Fault::from(refused)))
+    match script.pool {
+        PoolKind::Stack => lines_over(heap, form, Stack::new(form.blocks), calls),
+        PoolKind::Row => lines_over(heap, form, Row::new(form.blocks), calls),
+    }
 }
 
 // The lines of a run.
