@@ -22,12 +22,12 @@ use Rattle.runs.proofs.Full.{made_fit, made_fresh, made_full}
 use Rattle.runs.proofs.Goes.{Goes, goes_led}
 
 -- what goes from the keeper that was made on is a run
-pub played : {R : Type 0} (form : Form) (inside then : List Bool) (table : List R) (k : Core) (calls some : List (Call R)) (answers : List (Reply R)) (end : State R)
-    → make form inside ≡ Ok k → then ≡ inside → some ≡ calls → (ns : List ℕ) × Goes (state k then table) some answers end ns → PlayedSo form inside table calls answers end
-played {R} form inside then table k calls some answers end made same all p =
+pub played : {R : Type 0} (form : Form) (inside then : List Bool) (table : List R) (k : Core) (calls : List (Call R)) (answers : List (Reply R)) (end : State R)
+    → make form inside ≡ Ok k → then ≡ inside → (ns : List ℕ) × Goes (state k then table) calls answers end ns → PlayedSo form inside table calls answers end
+played {R} form inside then table k calls answers end made same p =
     let ns = p.0 in
     let begun : state k then table ≡ start form inside table = λ i. state (made_fresh form inside k made i) (same i) table in
-    let q : Goes (start form inside table) calls answers end ns = subst (λ (s : State R). Goes s calls answers end ns) begun (subst (λ cs. Goes (state k then table) cs answers end ns) all p.1) in
+    let q : Goes (start form inside table) calls answers end ns = subst (λ (s : State R). Goes s calls answers end ns) begun p.1 in
     let full = made_full form inside k made in
     let fit = made_fit form inside k made in
     let handed : Handed (start form (replicate form.blocks true) table) calls ns = subst (λ i. Handed (start form i table) calls ns) full q.1 in (

@@ -1,7 +1,8 @@
-use Rattle.std.proofs.Common.{◌+◌, ◌<◌, [], ◌∷◌, ◌++◌, length, take, vec_items, sym, ap, ◌∙◌, arith}
-use Rattle.std.proofs.lemmas.List.{take_more, take_all}
+use Rattle.std.proofs.Common.{◌≡◌, ◌+◌, ◌<◌, [], ◌∷◌, length, drop, vec_items, sym, ap, ◌∙◌, subst, arith}
+use Rattle.std.proofs.Math.ListN.{drop_of_length-le}
+use Rattle.std.proofs.lemmas.List.{drop_more}
 use Rattle.keeper.specs.Tables.{state}
-use Rattle.runs.proofs.Goes.{goes_more}
+use Rattle.runs.proofs.Goes.{Comes, comes_on, comes_all}
 use Rattle.runs.proofs.WholeRuns.{played}
 use Rattle.runs.proofs.plays.play.Goals as goal
 
@@ -12,14 +13,13 @@ loop-call-preserved g c =
     let i = l.call-index in
     let low : i < length calls = omega arith in
     let x = c.call-item.result in
+    let rest : drop i calls ≡ x ∷ drop (i + 1) calls = drop_more calls i x low ∙ ap (λ y. y ∷ drop (i + 1) calls) (sym c.call-item.is) in
     let did = c.ask-answer.ensures in
-    let later = c.ask-answer.new in (
+    let new = c.ask-answer.new in (
       omega arith,
       omega arith,
-      goes_more _ (take i calls) (take (i + 1) calls) (vec_items l.answers) (vec_items c.push_reserved.new.self) (state l.keeper.core (g.P.Pool.inside l.keeper.pool) l.table) (state later.keeper.core (g.P.Pool.inside later.keeper.pool) later.table) x (g.P.Pool.next l.keeper.pool) c.ask-answer.result
-          l.invariant.2 (g.met.P.Pool.chosen l.keeper.pool) did.to did.reply
-          (take_more calls i x low ∙ ap (λ y. take i calls ++ y ∷ []) (sym c.call-item.is))
-          c.push_reserved.ensures.items,
+      comes_on _ (state l.keeper.core (g.P.Pool.inside l.keeper.pool) l.table) (state new.keeper.core (g.P.Pool.inside new.keeper.pool) new.table) calls (drop (i + 1) calls) (vec_items l.answers) (vec_items c.push_reserved.new.self) x (g.P.Pool.next l.keeper.pool) c.ask-answer.result
+          (subst (Comes _ calls (vec_items l.answers) _) rest l.invariant.2) (g.met.P.Pool.chosen l.keeper.pool) did.to did.reply c.push_reserved.ensures.items,
     )
 
 pub returns : goal.returns
@@ -27,4 +27,5 @@ returns g c =
     let calls = c.args.calls.now in
     let l = c.loop-call in
     let made = c.in_ok-keeper.ensures in
-    played c.args.form (g.P.Pool.inside c.args.pool) _ c.args.table.now _ calls (take l.call-index calls) _ _ made.0 (ap g.P.Pool.inside made.1) (take_all l.call-index calls (omega arith)) l.invariant.2
+    let done : drop l.call-index calls ≡ [] = drop_of_length-le calls (omega arith) in
+    played c.args.form (g.P.Pool.inside c.args.pool) _ c.args.table.now _ calls _ _ made.0 (ap g.P.Pool.inside made.1) (comes_all _ _ calls _ (subst (Comes _ calls (vec_items l.answers) _) done l.invariant.2))

@@ -1,11 +1,11 @@
-use Rattle.std.proofs.Common.{◌≡◌, ℕ, ◌≤◌, List, length, take, vec_items, vec_len, vec_capacity}
+use Rattle.std.proofs.Common.{◌≡◌, ◌≤◌, length, drop, vec_items, vec_len, vec_capacity}
 use Rattle.keeper.specs.Tables.{state}
-use Rattle.runs.proofs.Goes.{Goes}
+use Rattle.runs.proofs.Goes.{Comes}
 use Rattle.runs.proofs.plays.play.Given as goal
 
--- there is a run of the calls so far, with the answers so far, to the keeper as it is
+-- the calls so far come, with the answers so far, to the keeper as it is
 abbrev pub invariant-loop-call : goal.invariant-loop-call
 invariant-loop-call g l =
     (vec_len l.answers ≡ l.call-index)
     × (length l.calls ≤ vec_capacity l.answers)
-    × ((ns : List ℕ) × Goes (state l.initial.keeper.core (g.P.Pool.inside l.initial.keeper.pool) l.initial.table) (take l.call-index l.calls) (vec_items l.answers) (state l.keeper.core (g.P.Pool.inside l.keeper.pool) l.table) ns)
+    × Comes (state l.initial.keeper.core (g.P.Pool.inside l.initial.keeper.pool) l.initial.table) l.calls (vec_items l.answers) (state l.keeper.core (g.P.Pool.inside l.keeper.pool) l.table) (drop l.call-index l.calls)
