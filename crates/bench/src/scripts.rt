@@ -139,6 +139,7 @@ fn read_run(heap: Global, first: &TextLine, others: &[TextLine]) -> Result<Scrip
     let ["run", name] = first.words.as_slice() else {
         return Err(ScriptFault::BadLine(first.number, Wanted::RunName));
     };
+    // the line after the first, whether there is one or not
     let fault = ScriptFault::BadLine(first.number.saturating_add(1), Wanted::FigureLine);
     let (figures, lines) = others.split_first().ok_or(fault)?;
     let Making { form, pool, kind } = making_of(figures.words.as_slice()).ok_or(fault)?;
@@ -158,6 +159,7 @@ fn read_run(heap: Global, first: &TextLine, others: &[TextLine]) -> Result<Scrip
 // The runs that a text writes, or the first line that is not as it should be.
 pub fn read_scripts(heap: Global, text: &str) -> Result<Vec<Script>, ScriptFault> {
     let lines = text_lines(heap, text)?;
+    // lines without words may stand before the first run
     let start = lines.iter().position(|line| !line.words.is_empty());
     let (_, mut rest) = lines.split_at(start.unwrap_or(lines.len()));
     let mut scripts = Vec::new(heap);
