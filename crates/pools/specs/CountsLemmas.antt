@@ -1,8 +1,10 @@
 -- How counts change as a number moves.
-use Rattle.std.specs.Prelude.{◌≡◌, ℕ, zero, suc, ◌+◌, ◌<◌, ◌≤◌, Bool, true, false, List, [], ◌∷◌, ◌++◌, length, replicate, ◌==◌, slice_index_or, slice_set, refl}
-use Rattle.std.proofs.Common.{arith}
+use Rattle.std.specs.Prelude.{◌≡◌, ℕ, zero, suc, ◌+◌, ◌<◌, ◌≤◌, Bool, true, false, List, [], ◌∷◌, ◌++◌, length, take, replicate, ◌==◌, nat_lt, slice_index_or, slice_set, refl}
+use Rattle.std.proofs.Common.{sym, ◌∙◌, arith}
 use Rattle.std.proofs.lemmas.Bool.Decides.{nat_tests}
 use Rattle.std.proofs.lemmas.Grind.{common_steps}
+use Rattle.std.proofs.lemmas.List.{length-take-le, length-replicate, get_or-take, get_or-replicate, ext_get_or}
+use Rattle.std.proofs.lemmas.Bool.{lt-ltb}
 use Rattle.pools.specs.Counts.{bit, tally, times}
 
 pub bit_le : (b : Bool) → bit b ≤ 1
@@ -49,6 +51,15 @@ tally_all (suc n) = omega (arith, tally_all n)
 pub tally_full : (bs : List Bool) → tally bs ≡ length bs → bs ≡ replicate (length bs) true
 tally_full [] e = refl
 tally_full (b ∷ bs) e = grind (arith, tally_le bs, tally_full bs)
+
+-- an array of tests that holds below the size
+pub all_in : (size : ℕ) (ins : List Bool) → size ≤ length ins → ((k : ℕ) → k < size → slice_index_or ins k false ≡ nat_lt k size) → take size ins ≡ replicate size true
+all_in size ins l each =
+    let long = length-take-le size ins l in
+    let many = length-replicate size true in
+    ext_get_or false (take size ins) (replicate size true) (omega arith)
+    (λ k h. let low : k < size = omega arith in
+    get_or-take size ins k false low ∙ each k low ∙ lt-ltb k size low ∙ sym (get_or-replicate size k true false low))
 
 pub times_append : (n : ℕ) (xs ys : List ℕ) → times n (xs ++ ys) ≡ times n xs + times n ys
 times_append n [] ys = omega arith

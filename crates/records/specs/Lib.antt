@@ -6,4 +6,5 @@ pub mod Branches
 pub mod Hexadecimal
 pub mod BranchRoundTrip
 pub mod EightBytes
+pub mod Judging
 pub mod ReadingRoundTrip

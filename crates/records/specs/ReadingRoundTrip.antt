@@ -1,6 +1,6 @@
 -- Encoding the reading that was decoded restores the eight bytes; decoding the one that was encoded gives it back.
-use Rattle.std.specs.Prelude.{◌≡◌, ℕ, ◌^◌, ◌<◌, true, false, not, T, List, Ok, from_bits, is_nan, to_bits, Float}
-use Rattle.std.proofs.Common.{sym, subst, arith}
+use Rattle.std.specs.Prelude.{◌≡◌, ℕ, ◌^◌, ◌<◌, true, false, cond, not, T, List, Ok, from_bits, is_nan, to_bits, Float}
+use Rattle.std.proofs.Common.{sym, ap, subst, arith}
 use Rattle.std.specs.Float.{binary32}
 use Rattle.std.specs.Float.Ieee.{fits}
 use Rattle.std.specs.Float.Ieee.Bits.{to_bits-of_bits, of_bits-to_bits, to_bits-lt}
@@ -18,7 +18,11 @@ number_again value small number = to_bits-of_bits binary32 value small (subst (�
 pub reading_restores : (bs : List ℕ) (x : Reading) → Octets bs → decoded_reading bs ≡ Ok x → encoded_reading x ≡ bs
 reading_restores bs x octets accepted = let whole = eight bs octets.0 in let bytes = octets.1 in grind (arith, nat_tests, word_first, word_second, word_third, word_fourth, word_below, number_again)
 
--- a measured value that is not a NaN, laid out by its bits, comes back
+-- a measured value that is not a NaN is laid out by its bits
+pub number_laid : (x : Float) → is_nan x ≡ false → encoded_reading (Analogue x) ≡ laid_out 1 (to_bits binary32 x)
+number_laid x number = ap (λ t. cond t (laid_out 0 0) (laid_out 1 (to_bits binary32 x))) number
+
+-- and comes back
 pub number_returns : (x : Float) → fits binary32 x ≡ true → is_nan x ≡ false → decoded_reading (laid_out 1 (to_bits binary32 x)) ≡ Ok (kept_reading (Analogue x))
 number_returns x fit number =
     let fitting : T (fits binary32 x) = subst T (sym fit) tt in
