@@ -27,7 +27,7 @@ pub fn text_lines<'a>(heap: Global, text: &'a str) -> Result<Vec<TextLine<'a>>, 
 }
 
 // The words of a line, up to `=>`, behind which the line that it prints may stand, or to a comment, which begins with `#`.
-fn words_of<'a>(heap: Global, line: &'a str) -> Result<Vec<&'a str>, AllocError> {
+pub fn words_of<'a>(heap: Global, line: &'a str) -> Result<Vec<&'a str>, AllocError> {
     line.split_whitespace()
         .take_while(|word| *word != "=>" && !word.starts_with("#"))
         .collect(heap)

@@ -4,18 +4,16 @@ ghost use Rattle.machine.specs.Machine.{after, finished};
 ghost use Rattle.keeper.specs.Tables.{state};
 ghost use Rattle.runs.specs.Replies.{reply_of};
 
-use keeper::Keeper;
+use keeper::{Keeper, Told};
 use machine::{Answer, Call, KeeperFault, Value};
 use pools::Pool;
 
 // What a keeper answers, a flag, a value and a count, with a block as its value.
-fn with_block<R: Copy>(
-    done: Result<(bool, Option<u16>, u16), KeeperFault>,
-) -> Result<Answer<R>, KeeperFault>
+fn with_block<R: Copy>(done: Told) -> Result<Answer<R>, KeeperFault>
     ensures { result ≡ reply_of done }
 {
     let (goes_on, value, given) = done?;
-    // not by `map`: no proof is made of one with a function whose result names R and whose argument does not
+    // Not by `map(Value::Block)`: tried, and no proof is made of a constructor there whose type names R and whose argument does not.
     let value = match value {
         Some(block) => Some(Value::Block(block)),
         None => None,
@@ -45,8 +43,8 @@ pub fn ask<P: Pool, R: Copy>(
     table: &mut [R],
     call: Call<R>,
 ) -> Result<Answer<R>, KeeperFault>
-    ensures to { state keeper.new.core (P.Pool.inside keeper.new.pool) table.new ≡ (after (state keeper.old.core (P.Pool.inside keeper.old.pool) table.old) call (P.Pool.next keeper.old.pool)).to }
-    ensures reply { result ≡ (after (state keeper.old.core (P.Pool.inside keeper.old.pool) table.old) call (P.Pool.next keeper.old.pool)).reply }
+    ensures to { state keeper.new.tables.core (P.Pool.inside keeper.new.pool) table.new ≡ (after (state keeper.old.tables.core (P.Pool.inside keeper.old.pool) table.old) call (P.Pool.next keeper.old.pool)).to }
+    ensures reply { result ≡ (after (state keeper.old.tables.core (P.Pool.inside keeper.old.pool) table.old) call (P.Pool.next keeper.old.pool)).reply }
 {
     match call {
         Call::Take { worker } => with_block(keeper.take(worker)),

@@ -19,7 +19,7 @@ pub fn play<P: Pool + Drop, R: Copy>(
     table: &mut [R],
     calls: &[Call<R>],
 ) -> Result<Played<P, R>, PlayFault>
-    ensures { MatchResult result (λ out. PlayedSo form (P.Pool.inside pool) table.old calls.now out.answers.items (state out.keeper.core (P.Pool.inside out.keeper.pool) table.new)) (λ fault. Declined fault form (P.Pool.inside pool) table.old table.new) }
+    ensures { MatchResult result (λ out. PlayedSo form (P.Pool.inside pool) table.old calls.now out.answers.items (state out.keeper.tables.core (P.Pool.inside out.keeper.pool) table.new)) (λ fault. Declined fault form (P.Pool.inside pool) table.old table.new) }
 {
     let mut keeper = Keeper::make(form, pool)?;
     let mut answers = Vec::with_capacity(heap, calls.len())?;

@@ -18,7 +18,7 @@ loop-call-preserved g c =
     let new = c.ask-answer.new in (
       omega arith,
       omega arith,
-      comes_on _ (state l.keeper.core (g.P.Pool.inside l.keeper.pool) l.table) (state new.keeper.core (g.P.Pool.inside new.keeper.pool) new.table) calls (drop (i + 1) calls) (vec_items l.answers) (vec_items c.push_reserved.new.self) x (g.P.Pool.next l.keeper.pool) c.ask-answer.result
+      comes_on _ (state l.keeper.tables.core (g.P.Pool.inside l.keeper.pool) l.table) (state new.keeper.tables.core (g.P.Pool.inside new.keeper.pool) new.table) calls (drop (i + 1) calls) (vec_items l.answers) (vec_items c.push_reserved.new.self) x (g.P.Pool.next l.keeper.pool) c.ask-answer.result
           (subst (Comes _ calls (vec_items l.answers) _) rest l.invariant.2) (g.met.P.Pool.chosen l.keeper.pool) did.to did.reply c.push_reserved.ensures.items,
     )
 

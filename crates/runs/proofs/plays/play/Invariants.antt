@@ -8,4 +8,4 @@ abbrev pub invariant-loop-call : goal.invariant-loop-call
 invariant-loop-call g l =
     (vec_len l.answers ≡ l.call-index)
     × (length l.calls ≤ vec_capacity l.answers)
-    × Comes (state l.initial.keeper.core (g.P.Pool.inside l.initial.keeper.pool) l.initial.table) l.calls (vec_items l.answers) (state l.keeper.core (g.P.Pool.inside l.keeper.pool) l.table) (drop l.call-index l.calls)
+    × Comes (state l.initial.keeper.tables.core (g.P.Pool.inside l.initial.keeper.pool) l.initial.table) l.calls (vec_items l.answers) (state l.keeper.tables.core (g.P.Pool.inside l.keeper.pool) l.table) (drop l.call-index l.calls)
