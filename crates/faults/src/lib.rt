@@ -2,6 +2,9 @@
 //
 // A layer has an enum of its own refusals, one definition in its specs/ that sets out each one's number, and a
 // `From` into `Fault`. To add a layer, add its name to `Layer`.
+//
+// Each layer writes its `From` and its `Display` itself: an `impl` for all of them at once would overlap with those that std has,
+// and a macro may not write one.
 #![tactic(auto)]
 
 ghost use Rattle.std.specs.Prelude.{Some};

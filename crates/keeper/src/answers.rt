@@ -5,7 +5,8 @@ ghost use Rattle.keeper.specs.Called.{placed};
 
 use machine::{KeeperFault, Refusal};
 
-// What a step that gives no block back answers: whether the task goes on, and its value.
+// What a step that gives no block back answers: whether the task goes on, and its value. A tuple, here and below, by a rule of the
+// project for what a turn answers.
 pub(crate) type Plain = Result<(bool, Option<u16>), Refusal>;
 
 // What any step answers: with how many blocks were given back.

@@ -84,7 +84,7 @@ impl Tables {
         }
     }
 
-    // One cell fewer does.
+    // One cell fewer does. Not one function with the last: a closure for the method in which they differ would be no plainer.
     pub(crate) fn name_less(&mut self, named: Content)
         ensures { self.new.core ≡ named_less self.old.core named.block }
     {

@@ -55,7 +55,8 @@ impl Tables {
         self.core.workers[worker.number as usize] = me;
     }
 
-    // Another task of a worker.
+    // Another task of a worker. That its numbers fit is asked, here and of whoever hands a task on to here: they are plain, by a rule
+    // of the project, and a type around a task would be taken off again at each match.
     pub(crate) fn put_task(&mut self, worker: WorkerId, task: Task)
         requires { task_fits task ≡ true }
         ensures { self.new.core ≡ with_task self.old.core worker.number task }

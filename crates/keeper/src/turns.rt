@@ -43,7 +43,8 @@ impl Tables {
         self.step(pool, worker)
     }
 
-    // One step of the worker's task: by the task and its stage, and by what the list holds that the step reads.
+    // One step of the worker's task: by the task and its stage, and by what the list holds that the step reads. One match, and no
+    // table of functions, by a rule of the project.
     fn step<P: Pool>(&mut self, pool: &mut P, worker: WorkerId) -> Counted
         ensures { outcome self.new.core (P.Pool.inside pool.new) result ≡ over (step self.old.core (P.Pool.inside pool.old) (P.Pool.next pool.old) worker.number (worker_of self.old.core worker.number).task) (P.Pool.inside pool.old) (P.Pool.next pool.old) }
     {

@@ -36,7 +36,7 @@ fn finished<R: Copy>(value: Option<Value<R>>) -> Answer<R>
     }
 }
 
-// Does one call, with a table of records.
+// Does one call, with a table of records. A match is plainest: each call has parameters and a kind of answer of its own.
 #[tactic(auto, using(crate::proofs::Asked::placed_told))]
 pub fn ask<P: Pool, R: Copy>(
     keeper: &mut Keeper<P>,
