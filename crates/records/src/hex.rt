@@ -27,8 +27,7 @@ impl fmt::Display for Hex {
 
     fn fmt<W: fmt::Write>(&self, f: &mut fmt::Formatter<W>) -> fmt::Result {
         for byte in &self.0 {
-            let byte = HexByte(*byte);
-            write!(f, "{byte}")?;
+            write!(f, "{}", HexByte(*byte))?;
         }
         Ok(())
     }

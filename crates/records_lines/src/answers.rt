@@ -58,10 +58,7 @@ impl fmt::Display for Answer {
 
     fn fmt<W: fmt::Write>(&self, f: &mut fmt::Formatter<W>) -> fmt::Result {
         match self.0 {
-            Ok(bytes) => {
-                let digits = Hex(bytes);
-                write!(f, "ok {digits}")
-            }
+            Ok(bytes) => write!(f, "ok {}", Hex(bytes)),
             Err(fault) => write!(f, "{fault}"),
         }
     }
