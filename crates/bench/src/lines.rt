@@ -49,8 +49,7 @@ impl fmt::Display for Status {
     ghost output = { λ status. Some (status_text status) };
 
     fn fmt<W: fmt::Write>(&self, f: &mut fmt::Formatter<W>) -> fmt::Result {
-        let number = self.number();
-        write!(f, "{number}")
+        write!(f, "{}", self.number())
     }
 }
 
@@ -78,10 +77,7 @@ impl fmt::Display for Shown {
     fn fmt<W: fmt::Write>(&self, f: &mut fmt::Formatter<W>) -> fmt::Result {
         match *self {
             Shown::Number(block) => write!(f, "{block}"),
-            Shown::Bytes(bytes) => {
-                let digits = Hex(bytes);
-                write!(f, "{digits}")
-            }
+            Shown::Bytes(bytes) => write!(f, "{}", Hex(bytes)),
         }
     }
 }
@@ -99,11 +95,13 @@ impl fmt::Display for Line {
     ghost output = { λ line. Some (line_text line) };
 
     fn fmt<W: fmt::Write>(&self, f: &mut fmt::Formatter<W>) -> fmt::Result {
-        let call = OrDash(self.call);
-        let status = self.status;
-        let value = OrDash(self.value);
-        let given = self.given;
-        write!(f, "{call} {status} {value} {given}")
+        let Line {
+            call,
+            status,
+            value,
+            given,
+        } = *self;
+        write!(f, "{} {status} {} {given}", OrDash(call), OrDash(value))
     }
 }
 

@@ -33,7 +33,6 @@ impl fmt::Display for Refusal {
     ghost output = { λ refusal. Some (printed (fault refusal)) };
 
     fn fmt<W: fmt::Write>(&self, f: &mut fmt::Formatter<W>) -> fmt::Result {
-        let fault = Fault::from(*self);
-        write!(f, "{fault}")
+        write!(f, "{}", Fault::from(*self))
     }
 }

@@ -83,7 +83,6 @@ impl fmt::Display for KeeperFault {
     ghost output = { λ refused. Some (printed (fault refused)) };
 
     fn fmt<W: fmt::Write>(&self, f: &mut fmt::Formatter<W>) -> fmt::Result {
-        let reported = Fault::from(*self);
-        write!(f, "{reported}")
+        write!(f, "{}", Fault::from(*self))
     }
 }

@@ -53,8 +53,7 @@ impl fmt::Display for PoolFault {
     ghost output = { λ refusal. Some (printed (fault refusal)) };
 
     fn fmt<W: fmt::Write>(&self, f: &mut fmt::Formatter<W>) -> fmt::Result {
-        let reported = Fault::from(*self);
-        write!(f, "{reported}")
+        write!(f, "{}", Fault::from(*self))
     }
 }
 
