@@ -35,6 +35,7 @@ impl Figures {
     pub fn new(form: Form) -> Result<Figures, Refusal>
         ensures { MatchResult result (λ figures. (figures.form ≡ form) × Fit form) (Outside form) }
     {
+        // Not by `find`: tried, and what it says of the figures before the one it finds did not come to this contract.
         for figure in IN_ORDER {
             if !form.fits(figure) {
                 return Err(Refusal::Misfit(figure));

@@ -29,6 +29,7 @@ impl From<Refusal> for Fault {
     }
 }
 
+// Each layer writes this itself: see `faults`.
 impl fmt::Display for Refusal {
     ghost output = { λ refusal. Some (printed (fault refusal)) };
 

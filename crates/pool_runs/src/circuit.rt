@@ -18,7 +18,7 @@ pub fn circulate<P: Pool>(heap: Global, pool: &mut P, wanted: u16) -> Result<Vec
             numbers.push_reserved(number);
         }
     }
-    for number in numbers.iter() {
+    for number in &numbers {
         let _ = pool.give(*number);
     }
     Ok(numbers)

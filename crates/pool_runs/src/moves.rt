@@ -11,7 +11,7 @@ pub enum Move {
     Give(u16),
 }
 
-// What a move comes to: the number handed out, or that the number was taken back.
+// What a move comes to: the number handed out, or that the number was taken back. Not an `Option`: the names say which move it is of.
 #[derive(Clone, Copy, PartialEq, Eq, Debug)]
 pub enum Outcome {
     HandedOut(u16),
@@ -23,6 +23,7 @@ pub fn step<P: Pool>(pool: &mut P, turn: Move) -> Result<Outcome, PoolFault>
     ensures right { Right (P.Pool.inside pool.old) turn result }
     ensures leaves { P.Pool.inside pool.new ≡ after (P.Pool.inside pool.old) turn result }
 {
+    // A match: each move has parameters and an answer of its own.
     match turn {
         Move::Take => Ok(Outcome::HandedOut(pool.take()?)),
         Move::Give(number) => {

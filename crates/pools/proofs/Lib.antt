@@ -1,3 +1,4 @@
 pub mod Moves
 pub mod Stacks
 pub mod Rings
+pub mod Fills

@@ -1,9 +1,9 @@
 -- How counts change as a number moves.
-use Rattle.std.specs.Prelude.{◌≡◌, ℕ, zero, suc, ◌+◌, ◌<◌, ◌≤◌, Bool, true, false, List, [], ◌∷◌, ◌++◌, length, take, replicate, ◌==◌, nat_lt, slice_index_or, slice_set, refl}
-use Rattle.std.proofs.Common.{sym, ◌∙◌, arith}
+use Rattle.std.specs.Prelude.{◌≡◌, ℕ, zero, suc, ◌+◌, ◌-◌, ◌<◌, ◌≤◌, Bool, true, false, List, [], ◌∷◌, ◌++◌, length, take, drop, replicate, ◌==◌, nat_lt, slice_index_or, slice_set, refl}
+use Rattle.std.proofs.Common.{sym, ap, ◌∙◌, arith}
 use Rattle.std.proofs.lemmas.Bool.Decides.{nat_tests}
 use Rattle.std.proofs.lemmas.Grind.{common_steps}
-use Rattle.std.proofs.lemmas.List.{length-take-le, length-replicate, get_or-take, get_or-replicate, ext_get_or}
+use Rattle.std.proofs.lemmas.List.{length-take-le, take-append-drop, length-replicate, get_or-take, get_or-replicate, ext_get_or}
 use Rattle.std.proofs.lemmas.Bool.{lt-ltb}
 use Rattle.pools.specs.Counts.{bit, tally, times}
 
@@ -60,6 +60,11 @@ all_in size ins l each =
     ext_get_or false (take size ins) (replicate size true) (omega arith)
     (λ k h. let low : k < size = omega arith in
     get_or-take size ins k false low ∙ each k low ∙ lt-ltb k size low ∙ sym (get_or-replicate size k true false low))
+
+-- the whole array of tests, from those below the size
+pub tests_again : (size : ℕ) (ins : List Bool) → size ≤ 2048 → length ins ≡ 2048 → drop size ins ≡ replicate (2048 - size) false → take size ins ++ replicate (2048 - length (take size ins)) false ≡ ins
+tests_again size ins l long past =
+    ap (λ n. take size ins ++ replicate (2048 - n) false) (length-take-le size ins (omega arith)) ∙ ap (λ tests. take size ins ++ tests) (sym past) ∙ take-append-drop size ins
 
 pub times_append : (n : ℕ) (xs ys : List ℕ) → times n (xs ++ ys) ≡ times n xs + times n ys
 times_append n [] ys = omega arith

@@ -48,7 +48,7 @@ impl From<PoolFault> for Fault {
     }
 }
 
-// A refusal prints as it is reported: layer, number, place.
+// A refusal prints as it is reported: layer, number, place. Each layer writes this itself: see `faults`.
 impl fmt::Display for PoolFault {
     ghost output = { λ refusal. Some (printed (fault refusal)) };
 

@@ -7,23 +7,29 @@ ghost use Rattle.pools.specs.Meaning.{given, gained, Unmoved};
 use crate::{LARGEST, PoolFault};
 use std::marker::Model;
 
-// The numbers below `size`; each is in where its place in `ins` holds.
+// The numbers below `size`; each is in where its place in `ins` holds, and past them no place does.
 #[derive(Drop)]
 pub(crate) struct Numbers {
     size: u16,
-    // Memory is fixed and there is no heap: else this would be a `Vec<bool>` of so many.
+    // An array within the struct, by a rule of the project for the numbers of a pool: else this would be a `Vec<bool>`.
     ins: [bool; LARGEST],
 }
 
-// Clauses see the list that says of each number whether it is in.
+// Clauses see the list that says of each number whether it is in. It forgets nothing: `inverse` has the fields back.
 impl Model for Numbers {
-    ghost use Rattle.std.specs.Prelude.{◌≤◌, Bool, List, take};
+    ghost use Rattle.std.proofs.Common.{arith, length-take-le};
+    ghost use Rattle.pools.specs.CountsLemmas.{tests_again};
+    ghost use Rattle.std.specs.Prelude.{◌≡◌, ◌-◌, ◌≤◌, ◌++◌, Bool, false, List, length, take, drop, replicate};
 
     ghost Value = { List Bool };
 
     ghost view = { λ numbers. take numbers.size numbers.ins };
 
-    ghost invariant = { λ numbers. numbers.size ≤ 2048 };
+    ghost invariant = { λ numbers. (numbers.size ≤ 2048) × (length numbers.ins ≡ 2048) × (drop numbers.size numbers.ins ≡ replicate (2048 - numbers.size) false) };
+
+    ghost inverse = { λ inside. record { size = length inside; ins = inside ++ replicate (2048 - length inside) false } };
+
+    ghost inverse_ok = { λ numbers h. λ i. record { size = length-take-le numbers.size numbers.ins (omega (arith, h.0, h.1)) i; ins = tests_again numbers.size numbers.ins h.0 h.1 h.2 i } };
 }
 
 impl Numbers {
@@ -34,10 +40,9 @@ impl Numbers {
         if size == 0 || size as usize > LARGEST {
             return Err(PoolFault::Misfit);
         }
-        Ok(Numbers {
-            size,
-            ins: [true; LARGEST],
-        })
+        let mut ins = [false; LARGEST];
+        ins[..size as usize].fill(true);
+        Ok(Numbers { size, ins })
     }
 
     // How many numbers there are.

@@ -15,7 +15,7 @@ pub struct Row {
     numbers: Numbers,
     head: u16,
     held: u16,
-    // Memory is fixed and there is no heap: else `spots`, `head` and `held` would be a `VecDeque`.
+    // An array within the struct, by a rule of the project for the numbers of a pool: else `spots`, `head` and `held` would be a `VecDeque`.
     spots: [u16; LARGEST],
     ghost fits: { (head < 2048) × (held ≤ length numbers) × (length numbers ≤ 2048) },
     ghost listed: { Listed (ringed spots head held) numbers },
@@ -37,6 +37,7 @@ impl Row {
     }
 }
 
+// The trait's clauses stand here again: an `impl` that has clauses replaces them, and there is one more, on the order.
 impl Pool for Row {
     ghost use Rattle.pools.specs.Rows.{members, order};
 

@@ -14,7 +14,7 @@ use crate::{LARGEST, Pool, PoolFault};
 pub struct Stack {
     numbers: Numbers,
     top: u16,
-    // Memory is fixed and there is no heap: else `spots` and `top` would be a `Vec`.
+    // An array within the struct, by a rule of the project for the numbers of a pool: else `spots` and `top` would be a `Vec`.
     spots: [u16; LARGEST],
     ghost fits: { (top ≤ length numbers) × (length numbers ≤ 2048) },
     ghost listed: { Listed (stacked (length numbers) top spots) numbers },
@@ -35,6 +35,7 @@ impl Stack {
     }
 }
 
+// The trait's clauses stand here again: an `impl` that has clauses replaces them, and there is one more, on the order.
 impl Pool for Stack {
     ghost use Rattle.pools.specs.Stacks.{members, order};
 

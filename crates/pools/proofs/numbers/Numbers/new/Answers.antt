@@ -1,6 +1,6 @@
-use Rattle.std.proofs.Common.{true, arith}
-use Rattle.std.proofs.lemmas.List.{take-replicate}
+use Rattle.std.proofs.Common.{arith, rules}
+use Rattle.pools.proofs.Fills.{filled}
 use Rattle.pools.proofs.numbers.Numbers.new.Goals as goal
 
-pub returns : goal.returns
-returns c = ((omega arith, omega arith), take-replicate c.args.size 2048 true (omega arith))
+pub invariant_of-result : goal.invariant_of-result
+invariant_of-result c = filled c.args.size c.fill.new.self (omega arith) (search rules)
