@@ -46,6 +46,7 @@ impl From<RecordFault> for Fault {
     }
 }
 
+// Each layer writes this itself: see `faults`.
 impl fmt::Display for RecordFault {
     ghost output = { λ refusal. Some (printed (fault refusal)) };
 

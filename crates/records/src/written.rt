@@ -8,6 +8,7 @@ pub fn eight_bytes(digits: &[u8]) -> Option<[u8; 8]>
     ensures { result ≡ eight_bytes digits.now }
 {
     let mut bytes = [0; 8];
+    // By a slice pattern: of what is written through `zip` with `iter_mut` a clause knows nothing.
     let mut left = digits;
     for place in bytes.iter_mut() {
         let [high, low, rest @ ..] = left else {
