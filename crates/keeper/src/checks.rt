@@ -1,6 +1,7 @@
 // The checks of the calls: what is given exists, and the worker has no task.
-ghost use Rattle.std.specs.Prelude.{◌≡◌, ◌≤◌, true, false, MatchResult, nat_lt};
+ghost use Rattle.std.specs.Prelude.{◌≡◌, ◌≤◌, true, false, MatchResult, ◌==◌, nat_lt};
 ghost use Rattle.machine.specs.declared.refusals.Refusal.TheVariants.{Stranger, Busy};
+ghost use Rattle.keeper.specs.Tables.{Serves};
 ghost use Rattle.machine.specs.Calls.{is_worker, is_hold, is_cell, is_block, or_none, free};
 
 use crate::ranges::{Below, BlockId, CellId, Content, HoldId, WorkerId};
@@ -66,5 +67,16 @@ impl Tables {
             Task::Idle => Ok(()),
             _ => Err(Refusal::Busy),
         }
+    }
+
+    // Refused where the worker has a task, or a table that is lent has not an entry for each block.
+    pub(crate) fn must_serve(&self, worker: WorkerId, entries: usize) -> Result<(), Refusal>
+        ensures { Serves (free self.now.core worker.number) (entries == self.now.core.form.blocks) result }
+    {
+        self.must_be_free(worker)?;
+        if entries != self.core.form.blocks as usize {
+            return Err(Refusal::Misfit);
+        }
+        Ok(())
     }
 }

@@ -44,7 +44,6 @@ impl Tables {
         if next < self.core.form.holds {
             return self.go_on(worker, Task::DropList { hold: next });
         }
-        self.put_task(worker, Task::Idle);
-        Ok((false, None))
+        self.end(worker)
     }
 }

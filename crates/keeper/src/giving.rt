@@ -30,6 +30,7 @@ impl Tables {
     {
         let mut next = Some(newest.number);
         let mut given = 0;
+        // Not a bare `while let`: that the elders come to an end is known only from there being so many blocks.
         for _ in 0..2048u16 {
             let Some(block) = next else {
                 break;

@@ -20,7 +20,7 @@ fn look_on(hold: u16, cell: u16, under: Option<u16>) -> Task
     }
 }
 
-// A hold and a cell go together through these steps. A struct of both would be no plainer: a task has plain numbers, by a rule of
+// A worker, a hold and a cell go together through these steps. A struct of them would be no plainer: a task has plain numbers, by a rule of
 // the project, so each step would take it apart again.
 impl Tables {
     // Step 1 reads the cell, unless it is a link of a block no longer live.

@@ -9,6 +9,7 @@ pub(crate) struct Below<const N: u16> {
     ghost fits: { number < N },
 }
 
+// The indices of workers, of holds, of anchors, of blocks, of cells, and of the places of reservations.
 pub(crate) type WorkerId = Below<8>;
 
 pub(crate) type HoldId = Below<4>;

@@ -21,6 +21,8 @@ pub(crate) struct Tables {
     ghost anchors: { AnchorsFit core },
 }
 
+// That what is written fits is asked, here and of whoever hands it on to here. Types that say it of tasks, batches, lists and blocks would be
+// no plainer: each of the many places that make one would wrap it, with the same goal there, and each match would take it off again.
 impl Tables {
     // Another anchor.
     pub(crate) fn put_anchor(&mut self, anchor: AnchorId, to: Content)
@@ -55,8 +57,7 @@ impl Tables {
         self.core.workers[worker.number as usize] = me;
     }
 
-    // Another task of a worker. That its numbers fit is asked, here and of whoever hands a task on to here: they are plain, by a rule
-    // of the project, and a type around a task would be taken off again at each match.
+    // Another task of a worker.
     pub(crate) fn put_task(&mut self, worker: WorkerId, task: Task)
         requires { task_fits task ≡ true }
         ensures { self.new.core ≡ with_task self.old.core worker.number task }

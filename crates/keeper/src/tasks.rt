@@ -1,7 +1,7 @@
 // A worker moves on to another task, or to another stage of its task.
-ghost use Rattle.std.specs.Prelude.{◌≡◌, true};
-ghost use Rattle.machine.specs.State.{with_task, place_of};
-ghost use Rattle.machine.specs.Moves.{goes_on};
+ghost use Rattle.std.specs.Prelude.{◌≡◌, true, None};
+ghost use Rattle.machine.specs.State.{with_task, idle, place_of};
+ghost use Rattle.machine.specs.Moves.{goes_on, ends};
 ghost use Rattle.machine.specs.Looking.{own_reservation, with_list, with_own_era, with_shown};
 ghost use Rattle.keeper.specs.Called.{plain};
 ghost use Rattle.keeper.specs.Fits.{task_fits, list_fits};
@@ -54,6 +54,14 @@ impl Tables {
     {
         self.put_task(worker, task);
         Ok((true, None))
+    }
+
+    // The worker's task is over, with no value.
+    pub(crate) fn end(&mut self, worker: WorkerId) -> Plain
+        ensures { plain self.new.core result ≡ ends (idle self.old.core worker.number) None }
+    {
+        self.put_task(worker, Task::Idle);
+        Ok((false, None))
     }
 
     // The list of the worker's hold becomes another, and the worker has another task.

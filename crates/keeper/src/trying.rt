@@ -8,7 +8,7 @@ ghost use Rattle.keeper.specs.Fits.{batch_fits, list_fits, task_fits};
 ghost use Rattle.machine.specs.declared.states.Task.TheVariants.{TryHang};
 ghost use Rattle.keeper.specs.Words.{hang_as};
 
-use crate::answers::{Counted, Plain};
+use crate::answers::{Counted, Plain, plain};
 use crate::ranges::{BlockId, Place, WorkerId, id};
 use crate::tables::Tables;
 use machine::{Batch, Block, HungList, Refusal, Reservation, Task, Worker};
@@ -64,8 +64,7 @@ impl Tables {
         ensures { plain self.new.core result ≡ try_visit self.old.core worker.number place.number next.number aside (worker_of self.old.core worker.number).batch }
     {
         let Some(batch) = self.core.workers[worker.number as usize].batch else {
-            self.put_task(worker, Task::Idle);
-            return Ok((false, None));
+            return self.end(worker);
         };
         let reservation = self.core.reservations[place.number as usize];
         if passed_over(reservation, batch.least) {
@@ -73,8 +72,7 @@ impl Tables {
             return self.go_on(worker, task);
         }
         if next.number == batch.lead {
-            self.put_task(worker, Task::Idle);
-            return Ok((false, None));
+            return self.end(worker);
         }
         let after = self.block_after(batch, next);
         let task = self.visited(batch, place, after, aside + 1);
@@ -115,8 +113,7 @@ impl Tables {
         ensures { plain self.new.core result ≡ hang_as self.old.core worker.number block.number left hung list (worker_of self.old.core worker.number).batch }
     {
         let Some(batch) = self.core.workers[worker.number as usize].batch else {
-            self.put_task(worker, Task::Idle);
-            return Ok((false, None));
+            return self.end(worker);
         };
         let under = match list {
             HungList::Off => {
@@ -141,8 +138,7 @@ impl Tables {
         ensures { outcome self.new.core (P.Pool.inside pool.new) result ≡ over (try_last self.old.core worker.number hung (worker_of self.old.core worker.number).batch) (P.Pool.inside pool.old) (P.Pool.next pool.old) }
     {
         let Some(batch) = self.core.workers[worker.number as usize].batch else {
-            self.put_task(worker, Task::Idle);
-            return Ok((false, None, 0));
+            return plain(self.end(worker));
         };
         let lead = id(batch.lead);
         let row = self.core.blocks.rows[batch.lead as usize];

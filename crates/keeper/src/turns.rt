@@ -18,8 +18,10 @@ use machine::Task::{
 use machine::{HungList, Refusal, Task};
 use pools::Pool;
 
+// The pool comes beside the tables: most steps do not touch it, so their contracts speak of the tables alone.
 impl Tables {
-    // What the list holds that the next step of a worker's task reads; off where it reads none.
+    // What the list holds that the next step of a worker's task reads; off where it reads none. One match, by the same
+    // rule as the step.
     fn list_read(&self, worker: WorkerId, task: Task) -> HungList
         requires { task_fits task ≡ true }
         ensures value { result ≡ list_read self.now.core worker.number task }

@@ -79,6 +79,7 @@ impl From<KeeperFault> for Fault {
     }
 }
 
+// Each layer writes this itself: see `faults`.
 impl fmt::Display for KeeperFault {
     ghost output = { λ refused. Some (printed (fault refused)) };
 

@@ -154,7 +154,7 @@ pub struct Worker {
     pub shows: [Option<u16>; 4],
 }
 
-// A keeper but for its pool.
+// A keeper but for its pool. All stands in arrays within it, by a rule of the project: memory is fixed and there is no heap.
 #[derive(Drop)]
 pub struct Core {
     pub form: Form,

@@ -13,11 +13,7 @@ fn with_block<R: Copy>(done: Told) -> Result<Answer<R>, KeeperFault>
     ensures { result ≡ reply_of done }
 {
     let (goes_on, value, given) = done?;
-    // Not by `map(Value::Block)`: tried, and no proof is made of a constructor there whose type names R and whose argument does not.
-    let value = match value {
-        Some(block) => Some(Value::Block(block)),
-        None => None,
-    };
+    let value = value.map(|block| -> Value<R> { Value::Block(block) });
     Ok(Answer {
         goes_on,
         value,

@@ -22,6 +22,7 @@ pub fn play<P: Pool + Drop, R: Copy>(
     ensures { MatchResult result (λ out. PlayedSo form (P.Pool.inside pool) table.old calls.now out.answers.items (state out.keeper.tables.core (P.Pool.inside out.keeper.pool) table.new)) (λ fault. Declined fault form (P.Pool.inside pool) table.old table.new) }
 {
     let mut keeper = Keeper::make(form, pool)?;
+    // Room for every answer first: a chain that collects could fail between two calls, with the keeper moved.
     let mut answers = Vec::with_capacity(heap, calls.len())?;
     for call in calls {
         let answer = ask(&mut keeper, table, *call);

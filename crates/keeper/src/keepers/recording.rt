@@ -29,10 +29,7 @@ impl<P: Pool> Keeper<P> {
         let at = move |refusal| place(worker, refusal);
         let owner = self.tables.worker(worker).map_err(at)?;
         let target = self.tables.block(block).map_err(at)?;
-        self.tables.must_be_free(owner).map_err(at)?;
-        if table.len() != self.tables.core.form.blocks as usize {
-            return Err(at(Refusal::Misfit));
-        }
+        self.tables.must_serve(owner, table.len()).map_err(at)?;
         if !self.tables.owns(owner, target) {
             return Err(at(Refusal::OutOfHand));
         }
@@ -47,10 +44,7 @@ impl<P: Pool> Keeper<P> {
         let at = move |refusal| place(worker, refusal);
         let reader = self.tables.worker(worker).map_err(at)?;
         let own = self.tables.hold(hold).map_err(at)?;
-        self.tables.must_be_free(reader).map_err(at)?;
-        if table.len() != self.tables.core.form.blocks as usize {
-            return Err(at(Refusal::Misfit));
-        }
+        self.tables.must_serve(reader, table.len()).map_err(at)?;
         let shown = self.tables.shown(reader, own);
         record_of(table, shown).ok_or(at(Refusal::OutOfHand))
     }
