@@ -42,8 +42,8 @@ pub fn call_of<K: Kind>(words: &[&str]) -> Option<Call<K>> {
         ["relink", worker, cell, expected, new] => Some(Call::Relink {
             worker: number(worker)?,
             cell: number(cell)?,
-            expected: number_or_none(expected)?,
-            new: number_or_none(new)?,
+            expected: number_or_none(expected).ok()?,
+            new: number_or_none(new).ok()?,
         }),
         _ => None,
     }

@@ -33,7 +33,7 @@ pub enum Status {
 }
 
 impl Status {
-    // The number that is printed of it.
+    // The number that is printed of it: a `match`, since a variant that carries something is no number by `as`.
     fn number(self) -> u16
         ensures { result ≡ status_number self }
     {

@@ -8,26 +8,42 @@ mod scripts;
 mod words;
 
 use crate::playing::lines_of;
-use crate::scripts::{Script, read_scripts};
+use crate::scripts::{Script, ScriptFault, read_scripts};
 use std::process::ExitCode;
-use std::{env, fs};
+use std::{env, fmt, fs, io};
 
-// The runs that a file writes; none where it writes no runs, or cannot be read, of which it is complained then.
-fn scripts_in(rt: &HostRuntime, file: &str) -> anyhow::Result<Option<Vec<Script>>> {
-    let text = match fs::read_to_string(rt, file) {
-        Ok(text) => text,
-        Err(error) => {
-            eprintln!(rt; "bench: {file}: {error}")?;
-            return Ok(None);
-        }
-    };
-    match read_scripts(rt.alloc(), text.as_str()) {
-        Ok(scripts) => Ok(Some(scripts)),
-        Err(fault) => {
-            eprintln!(rt; "bench: {file}: {fault}")?;
-            Ok(None)
+// Why no runs are read from a file: it cannot be read, or it writes none.
+#[derive(Drop)]
+enum FileFault {
+    Unread(io::Error),
+    Unfit(ScriptFault),
+}
+
+impl From<io::Error> for FileFault {
+    fn from(error: io::Error) -> FileFault {
+        FileFault::Unread(error)
+    }
+}
+
+impl From<ScriptFault> for FileFault {
+    fn from(fault: ScriptFault) -> FileFault {
+        FileFault::Unfit(fault)
+    }
+}
+
+impl fmt::Display for FileFault {
+    fn fmt<W: fmt::Write>(&self, f: &mut fmt::Formatter<W>) -> fmt::Result {
+        match self {
+            FileFault::Unread(error) => write!(f, "{error}"),
+            FileFault::Unfit(fault) => write!(f, "{fault}"),
         }
     }
+}
+
+// The runs that a file writes.
+fn scripts_in(rt: &HostRuntime, file: &str) -> Result<Vec<Script>, FileFault> {
+    let text = fs::read_to_string(rt, file)?;
+    Ok(read_scripts(rt.alloc(), text.as_str())?)
 }
 
 // Plays runs one after another.
@@ -50,10 +66,13 @@ fn main(rt: HostRuntime) -> anyhow::Result<ExitCode> {
     }
     let mut texts = Vec::new(rt.alloc());
     for file in &files {
-        let Some(scripts) = scripts_in(&rt, file.as_str())? else {
-            return Ok(ExitCode::FAILURE);
-        };
-        texts.push(scripts)?;
+        match scripts_in(&rt, file.as_str()) {
+            Ok(scripts) => texts.push(scripts)?,
+            Err(fault) => {
+                eprintln!(rt; "bench: {file}: {fault}")?;
+                return Ok(ExitCode::FAILURE);
+            }
+        }
     }
     for scripts in &texts {
         print_runs(&rt, scripts.as_slice())?;

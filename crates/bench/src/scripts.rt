@@ -18,8 +18,13 @@ pub enum PoolKind {
     Row,
 }
 
+// Not one with that of a kind of record: an `impl` for all that has words would overlap. A word that names none says no more.
 impl FromStr for PoolKind {
+    ghost use Rattle.bench.specs.Words.{pool_word, IsNamed};
+
     type Err = ();
+
+    ghost from_str_gives = { IsNamed pool_word };
 
     fn from_str(word: &str) -> Result<PoolKind, ()> {
         match word {
@@ -38,7 +43,11 @@ enum RecordKind {
 }
 
 impl FromStr for RecordKind {
+    ghost use Rattle.bench.specs.Words.{kind_word, IsNamed};
+
     type Err = ();
+
+    ghost from_str_gives = { IsNamed kind_word };
 
     fn from_str(word: &str) -> Result<RecordKind, ()> {
         match word {
@@ -88,6 +97,7 @@ pub enum ScriptFault {
     NoMemory,
 }
 
+// One for each way in which memory is refused: an `impl` over both would overlap. There is nothing more to say of the error.
 impl From<AllocError> for ScriptFault {
     fn from(_error: AllocError) -> ScriptFault {
         ScriptFault::NoMemory
@@ -123,12 +133,13 @@ fn making_of(words: &[&str]) -> Option<Making> {
 
 // The calls that lines write; one without words writes none.
 fn read_calls<K: Kind>(heap: Global, lines: &[TextLine]) -> Result<Vec<Call<K>>, ScriptFault> {
+    // A `for`: a chain would have to hand on three kinds of `?`.
     let mut calls = Vec::new(heap);
     for line in lines {
-        let words = line.words.as_slice();
-        if !words.is_empty() {
+        if !line.is_blank() {
+            let words = line.words(heap)?;
             let fault = ScriptFault::BadLine(line.number, Wanted::OneCall);
-            calls.push(call_of(words).ok_or(fault)?)?;
+            calls.push(call_of(words.as_slice()).ok_or(fault)?)?;
         }
     }
     Ok(calls)
@@ -136,13 +147,15 @@ fn read_calls<K: Kind>(heap: Global, lines: &[TextLine]) -> Result<Vec<Call<K>>,
 
 // The run that its first line and the others up to the next run write.
 fn read_run(heap: Global, first: &TextLine, others: &[TextLine]) -> Result<Script, ScriptFault> {
-    let ["run", name] = first.words.as_slice() else {
+    let words = first.words(heap)?;
+    let ["run", name] = words.as_slice() else {
         return Err(ScriptFault::BadLine(first.number, Wanted::RunName));
     };
-    // the line after the first, whether there is one or not
+    // The line after the first, whether there is one or not.
     let fault = ScriptFault::BadLine(first.number.saturating_add(1), Wanted::FigureLine);
     let (figures, lines) = others.split_first().ok_or(fault)?;
-    let Making { form, pool, kind } = making_of(figures.words.as_slice()).ok_or(fault)?;
+    let figures = figures.words(heap)?;
+    let Making { form, pool, kind } = making_of(figures.as_slice()).ok_or(fault)?;
     let name = String::from_str(heap, name)?;
     let calls = match kind {
         RecordKind::Readings => Calls::OnReadings(read_calls(heap, lines)?),
@@ -159,8 +172,8 @@ fn read_run(heap: Global, first: &TextLine, others: &[TextLine]) -> Result<Scrip
 // The runs that a text writes, or the first line that is not as it should be.
 pub fn read_scripts(heap: Global, text: &str) -> Result<Vec<Script>, ScriptFault> {
     let lines = text_lines(heap, text)?;
-    // lines without words may stand before the first run
-    let start = lines.iter().position(|line| !line.words.is_empty());
+    // Lines without words may stand before the first run.
+    let start = lines.iter().position(|line| !line.is_blank());
     let (_, mut rest) = lines.split_at(start.unwrap_or(lines.len()));
     let mut scripts = Vec::new(heap);
     while let [first, later @ ..] = rest {

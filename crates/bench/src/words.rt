@@ -1,44 +1,57 @@
 // The lines of a text, their words, and the numbers in them.
 use std::alloc::{AllocError, Global};
+use std::num::ParseIntError;
 use std::str::FromStr;
 
-// A line of a text: its number, from 1 on, and its words.
-#[derive(Drop)]
-pub struct TextLine<'a> {
+// A line of a text: its number, from 1 on, and what it says.
+#[derive(Clone, Copy)]
+pub(crate) struct TextLine<'a> {
     pub number: usize,
-    pub words: Vec<&'a str>,
+    text: &'a str,
 }
 
 impl<'a> TextLine<'a> {
     // Whether the line begins a run.
-    pub fn begins_run(&self) -> bool {
-        matches!(self.words.as_slice(), ["run", ..])
+    pub(crate) fn begins_run(&self) -> bool {
+        self.text.split_whitespace().next() == Some("run")
+    }
+
+    // Whether it has no words.
+    pub(crate) fn is_blank(&self) -> bool {
+        self.text.split_whitespace().next().is_none_or(ends_words)
+    }
+
+    // Its words.
+    pub(crate) fn words(&self, heap: Global) -> Result<Vec<&'a str>, AllocError> {
+        words_of(heap, self.text)
     }
 }
 
 // The lines of a text.
-pub fn text_lines<'a>(heap: Global, text: &'a str) -> Result<Vec<TextLine<'a>>, AllocError> {
-    let mut lines = Vec::new(heap);
-    for (number, line) in (1..).zip(text.lines()) {
-        let words = words_of(heap, line)?;
-        lines.push(TextLine { number, words })?;
-    }
-    Ok(lines)
+pub(crate) fn text_lines<'a>(heap: Global, text: &'a str) -> Result<Vec<TextLine<'a>>, AllocError> {
+    (1..)
+        .zip(text.lines())
+        .map(|(number, text)| TextLine { number, text })
+        .collect(heap)
 }
 
-// The words of a line, up to `=>`, behind which the line that it prints may stand, or to a comment, which begins with `#`.
+// Whether the words of a line end before this one: it is `=>`, behind which the line that it prints may stand, or begins a comment.
+fn ends_words(word: &str) -> bool {
+    word == "=>" || word.starts_with("#")
+}
+
+// The words of a line.
 pub fn words_of<'a>(heap: Global, line: &'a str) -> Result<Vec<&'a str>, AllocError> {
     line.split_whitespace()
-        .take_while(|word| *word != "=>" && !word.starts_with("#"))
+        .take_while(|word| !ends_words(word))
         .collect(heap)
 }
 
 // A number, or `-` for none.
-pub fn number_or_none(word: &str) -> Option<Option<u16>> {
-    if word == "-" {
-        Some(None)
-    } else {
-        number(word).map(Some)
+pub fn number_or_none(word: &str) -> Result<Option<u16>, ParseIntError> {
+    match word {
+        "-" => Ok(None),
+        _ => word.parse().map(Some),
     }
 }
 
