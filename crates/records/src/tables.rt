@@ -8,5 +8,8 @@ use std::alloc::{AllocError, Global};
 pub fn fresh_table<R: Kind>(heap: Global, count: usize) -> Result<Vec<R>, AllocError>
     ensures { IfOk result (λ table. table.items ≡ replicate count R.Kind.blank) }
 {
-    (0..count).map(|_| R::fresh()).collect(heap)
+    // Room for all of them first: a chain that collects would fill what memory there is before it is refused.
+    let mut table = Vec::with_capacity(heap, count)?;
+    table.extend((0..count).map(|_| R::fresh()))?;
+    Ok(table)
 }
