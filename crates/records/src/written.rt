@@ -7,6 +7,10 @@ ghost use Rattle.records.specs.Hexadecimal.{byte_of, eight_bytes};
 pub fn eight_bytes(digits: &[u8]) -> Option<[u8; 8]>
     ensures { result ≡ eight_bytes digits.now }
 {
+    // At once where there are not sixteen, and not past the eight bytes of too many.
+    if digits.len() != 16 {
+        return None;
+    }
     let mut bytes = [0; 8];
     // By a slice pattern: of what is written through `zip` with `iter_mut` a clause knows nothing.
     let mut left = digits;
