@@ -1,9 +1,9 @@
 // Texts of runs: each begins with a line `run NAME` and a line of figures, and then has a call on a line.
-ghost use Rattle.std.specs.Prelude.{Some};
+ghost use Rattle.std.specs.Prelude.{◌≤◌, length, IfOk, Some};
 ghost use Rattle.bench.specs.Lines.{wanted_text, fault_text};
 
 use crate::calls::call_of;
-use crate::words::{TextLine, figure, text_lines};
+use crate::words::{figure, is_blank, words_of};
 use figures::Form;
 use machine::Call;
 use records::{Branch, Kind, Reading};
@@ -131,55 +131,82 @@ fn making_of(words: &[&str]) -> Option<Making> {
     })
 }
 
-// The calls that lines write; one without words writes none.
-fn read_calls<K: Kind>(heap: Global, lines: &[TextLine]) -> Result<Vec<Call<K>>, ScriptFault> {
+// The calls that lines write up to the next run, and the lines from there on; a line without words writes none. The first has this number.
+fn read_calls<'t, 'a, K: Kind>(
+    heap: Global,
+    number: usize,
+    lines: &'t [&'a str],
+) -> Result<(Vec<Call<K>>, &'t [&'a str]), ScriptFault>
+    ensures { IfOk result (λ p. length p.1.now ≤ length lines.now) }
+{
     // A `for`: a chain would have to hand on three kinds of `?`.
     let mut calls = Vec::new(heap);
-    for line in lines {
-        if !line.is_blank() {
-            let words = line.words(heap)?;
-            let fault = ScriptFault::BadLine(line.number, Wanted::OneCall);
-            calls.push(call_of(words.as_slice()).ok_or(fault)?)?;
+    for (place, line) in lines.iter().enumerate() {
+        let words = words_of(heap, line)?;
+        match words.as_slice() {
+            [] => (),
+            ["run", ..] => return Ok((calls, &lines[place..])),
+            words => {
+                let fault = ScriptFault::BadLine(number.saturating_add(place), Wanted::OneCall);
+                calls.push(call_of(words).ok_or(fault)?)?;
+            }
         }
     }
-    Ok(calls)
+    Ok((calls, &[]))
 }
 
-// The run that its first line and the others up to the next run write.
-fn read_run(heap: Global, first: &TextLine, others: &[TextLine]) -> Result<Script, ScriptFault> {
-    let words = first.words(heap)?;
+// The run that its first line, which has this number, and the later ones up to the next run write; and the lines from there on.
+fn read_run<'t, 'a>(
+    heap: Global,
+    number: usize,
+    first: &str,
+    later: &'t [&'a str],
+) -> Result<(Script, &'t [&'a str]), ScriptFault>
+    ensures { IfOk result (λ p. length p.1.now ≤ length later.now) }
+{
+    let words = words_of(heap, first)?;
     let ["run", name] = words.as_slice() else {
-        return Err(ScriptFault::BadLine(first.number, Wanted::RunName));
+        return Err(ScriptFault::BadLine(number, Wanted::RunName));
     };
     // The line after the first, whether there is one or not.
-    let fault = ScriptFault::BadLine(first.number.saturating_add(1), Wanted::FigureLine);
-    let (figures, lines) = others.split_first().ok_or(fault)?;
-    let figures = figures.words(heap)?;
+    let second = number.saturating_add(1);
+    let fault = ScriptFault::BadLine(second, Wanted::FigureLine);
+    let (figures, lines) = later.split_first().ok_or(fault)?;
+    let figures = words_of(heap, figures)?;
     let Making { form, pool, kind } = making_of(figures.as_slice()).ok_or(fault)?;
     let name = String::from_str(heap, name)?;
-    let calls = match kind {
-        RecordKind::Readings => Calls::OnReadings(read_calls(heap, lines)?),
-        RecordKind::Branches => Calls::OnBranches(read_calls(heap, lines)?),
+    let third = second.saturating_add(1);
+    let (calls, next) = match kind {
+        RecordKind::Readings => {
+            let (calls, next) = read_calls(heap, third, lines)?;
+            (Calls::OnReadings(calls), next)
+        }
+        RecordKind::Branches => {
+            let (calls, next) = read_calls(heap, third, lines)?;
+            (Calls::OnBranches(calls), next)
+        }
     };
-    Ok(Script {
+    let script = Script {
         name,
         form,
         pool,
         calls,
-    })
+    };
+    Ok((script, next))
 }
 
 // The runs that a text writes, or the first line that is not as it should be.
 pub fn read_scripts(heap: Global, text: &str) -> Result<Vec<Script>, ScriptFault> {
-    let lines = text_lines(heap, text)?;
+    let lines: Vec<&str> = text.lines().collect(heap)?;
+    let count = lines.len();
     // Lines without words may stand before the first run.
-    let start = lines.iter().position(|line| !line.is_blank());
-    let (_, mut rest) = lines.split_at(start.unwrap_or(lines.len()));
+    let start = lines.iter().position(|line| !is_blank(line));
+    let (_, mut rest) = lines.split_at(start.unwrap_or(count));
     let mut scripts = Vec::new(heap);
     while let [first, later @ ..] = rest {
-        let end = later.iter().position(|line| line.begins_run());
-        let (others, next) = later.split_at(end.unwrap_or(later.len()));
-        scripts.push(read_run(heap, first, others)?)?;
+        let number = count - later.len();
+        let (script, next) = read_run(heap, number, first, later)?;
+        scripts.push(script)?;
         rest = next;
     }
     Ok(scripts)

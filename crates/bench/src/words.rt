@@ -1,43 +1,16 @@
-// The lines of a text, their words, and the numbers in them.
+// The words of a line, and the numbers in them.
 use std::alloc::{AllocError, Global};
 use std::num::ParseIntError;
 use std::str::FromStr;
 
-// A line of a text: its number, from 1 on, and what it says.
-#[derive(Clone, Copy)]
-pub(crate) struct TextLine<'a> {
-    pub number: usize,
-    text: &'a str,
-}
-
-impl<'a> TextLine<'a> {
-    // Whether the line begins a run.
-    pub(crate) fn begins_run(&self) -> bool {
-        self.text.split_whitespace().next() == Some("run")
-    }
-
-    // Whether it has no words.
-    pub(crate) fn is_blank(&self) -> bool {
-        self.text.split_whitespace().next().is_none_or(ends_words)
-    }
-
-    // Its words.
-    pub(crate) fn words(&self, heap: Global) -> Result<Vec<&'a str>, AllocError> {
-        words_of(heap, self.text)
-    }
-}
-
-// The lines of a text.
-pub(crate) fn text_lines<'a>(heap: Global, text: &'a str) -> Result<Vec<TextLine<'a>>, AllocError> {
-    (1..)
-        .zip(text.lines())
-        .map(|(number, text)| TextLine { number, text })
-        .collect(heap)
-}
-
 // Whether the words of a line end before this one: it is `=>`, behind which the line that it prints may stand, or begins a comment.
 fn ends_words(word: &str) -> bool {
     word == "=>" || word.starts_with("#")
+}
+
+// Whether a line has no words.
+pub fn is_blank(line: &str) -> bool {
+    line.split_whitespace().next().is_none_or(ends_words)
 }
 
 // The words of a line.
