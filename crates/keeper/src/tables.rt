@@ -62,7 +62,7 @@ impl Tables {
         requires { task_fits task ≡ true }
         ensures { self.new.core ≡ with_task self.old.core worker.number task }
     {
-        let me = self.core.workers[worker.number as usize];
-        self.put_worker(worker, Worker { task, ..me });
+        // That field alone: a turn that only moves on then copies no worker.
+        self.core.workers[worker.number as usize].task = task;
     }
 }
