@@ -16,7 +16,7 @@ pub struct Row {
     held: u16,
     // An array within the struct, by a rule of the project for the numbers of a pool: else `spots`, `head` and `held` would be a `VecDeque`.
     spots: [u16; LARGEST],
-    // Last, so that no compiler takes a write of one of its tests for one of `head` or `held`, and reads these again.
+    // Last: before them, the kit's compiler takes a write of one of its tests for one of `head` or `held`, and reads these again.
     numbers: Numbers,
     ghost fits: { (head < 2048) × (held ≤ length numbers) × (length numbers ≤ 2048) },
     ghost listed: { Listed (ringed spots head held) numbers },

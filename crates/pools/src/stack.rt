@@ -15,7 +15,7 @@ pub struct Stack {
     top: u16,
     // An array within the struct, by a rule of the project for the numbers of a pool: else `spots` and `top` would be a `Vec`.
     spots: [u16; LARGEST],
-    // Last, so that no compiler takes a write of one of its tests for one of `top`, and reads that again.
+    // Last: before them, the kit's compiler takes a write of one of its tests for one of `top`, and reads that again.
     numbers: Numbers,
     ghost fits: { (top ≤ length numbers) × (length numbers ≤ 2048) },
     ghost listed: { Listed (stacked (length numbers) top spots) numbers },

@@ -8,8 +8,8 @@ use std::alloc::{AllocError, Global};
 pub fn fresh_table<R: Kind>(heap: Global, count: usize) -> Result<Vec<R>, AllocError>
     ensures { IfOk result (λ table. table.items ≡ replicate count R.Kind.blank) }
 {
-    // Room for all of them first: a chain that collects would fill what memory there is before it is refused.
+    // Room for just so many: `resize` alone makes more for a table of one or two.
     let mut table = Vec::with_capacity(heap, count)?;
-    table.extend((0..count).map(|_| R::fresh()))?;
+    table.resize(count, R::fresh())?;
     Ok(table)
 }
