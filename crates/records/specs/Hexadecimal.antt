@@ -1,5 +1,5 @@
 -- How bytes are printed and written in hexadecimal digits.
-use Rattle.std.specs.Prelude.{ℕ, ◌+◌, ◌*◌, ◌/◌, ◌%◌, cond, ◌&&◌, List, [], ◌∷◌, length, Some, None, Option, ◌==◌, nat_lt}
+use Rattle.std.specs.Prelude.{ℕ, zero, suc, ◌+◌, ◌*◌, ◌/◌, ◌%◌, cond, ◌&&◌, List, [], ◌∷◌, length, Some, None, Option, ◌==◌, nat_lt}
 use Rattle.std.specs.List.{flat_map}
 use Rattle.std.specs.Char.{digit_value}
 
@@ -14,6 +14,11 @@ byte_digits byte = digit (byte / 16) ∷ digit (byte % 16) ∷ []
 -- the digits of several bytes, one byte after another
 abbrev pub bytes_digits : List ℕ → List ℕ
 bytes_digits bytes = flat_map byte_digits bytes
+
+-- the last so many digits of a number, before others
+abbrev pub last_digits : ℕ → ℕ → List ℕ → List ℕ
+last_digits zero number others = others
+last_digits (suc count) number others = last_digits count (number / 16) (digit (number % 16) ∷ others)
 
 -- the byte that two hexadecimal digits of either case write, the high one first
 abbrev pub byte_of : ℕ → ℕ → Option ℕ
